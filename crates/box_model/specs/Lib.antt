@@ -1,0 +1,4 @@
+pub mod Boxes
+pub mod Demands
+pub mod Hold
+pub mod Least

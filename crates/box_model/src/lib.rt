@@ -1,0 +1,6 @@
+//! Boxes of states: an interval per fluent and the possible truth values per fact.
+#![tactic(auto)]
+
+mod state_box;
+
+pub use state_box::{May, StateBox};
