@@ -1,0 +1,4 @@
+//! The narrow form of a domain and a problem.
+#![tactic(auto)]
+
+mod form;
