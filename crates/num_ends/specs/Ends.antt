@@ -84,9 +84,16 @@ point_of d = (Incl d, Incl d)
 abbrev pub whole_line : Interval
 whole_line = (NegInf, PosInf)
 
--- the lower of two lower ends and the higher of two upper ends; at equal values a closed one
+-- the lower of two lower ends; at equal values a closed one
+abbrev pub lower_hull : End → End → End
+lower_hull a b = cond (lower_covers a b) a b
+
+-- the higher of two upper ends, likewise
+abbrev pub upper_hull : End → End → End
+upper_hull a b = cond (upper_covers a b) a b
+
 abbrev pub hull_of : Interval → Interval → Interval
-hull_of i j = (cond (lower_covers i.0 j.0) i.0 j.0, cond (upper_covers i.1 j.1) i.1 j.1)
+hull_of i j = (lower_hull i.0 j.0, upper_hull i.1 j.1)
 
 -- a lower end is below an upper one: then some value past the one is less than some value before the other
 abbrev pub is_end_below : End → End → Bool

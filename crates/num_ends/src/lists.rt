@@ -1,6 +1,6 @@
 //! Thin lists over `Vec`, which contracts see as the lists of their items.
 
-ghost use Rattle.std.specs.Prelude.{◌≡◌, [], ◌∷◌, ◌++◌, length, OnOk, OnErr};
+ghost use Rattle.std.specs.Prelude.{◌≡◌, [], ◌∷◌, ◌++◌, length, take, OnOk, OnErr};
 
 use crate::faults::NoMemory;
 use std::alloc::Global;
@@ -68,6 +68,25 @@ impl<T: Drop> List<T> {
         ensures err { OnErr result (self.new ≡ self.old) }
     {
         self.items.push(item).map_err(NoMemory::from)
+    }
+}
+
+impl<T: Copy> List<T> {
+    /// Adds items at the end, in order. Without memory the list stays as it was.
+    pub fn extend_from_slice(&mut self, items: &[T]) -> Result<(), NoMemory>
+        ensures ok { OnOk result (self.new ≡ self.old ++ items.now) }
+        ensures err { OnErr result (self.new ≡ self.old) }
+    {
+        self.items.extend_from_slice(items).map_err(NoMemory::from)
+    }
+}
+
+impl<T: Drop> List<T> {
+    /// Keeps the first items, at most so many.
+    pub fn truncate(&mut self, len: usize)
+        ensures { self.new ≡ take len self.old }
+    {
+        self.items.truncate(len);
     }
 }
 

@@ -1,0 +1,15 @@
+pub mod DecimalOrder
+pub mod OrderSteps
+pub mod Zeros
+pub mod Operations
+pub mod EndProducts
+pub mod Mirrors
+pub mod Known
+pub mod OutwardSteps
+pub mod Clips
+pub mod IntervalProducts
+pub mod Inverses
+pub mod Arithmetics
+pub mod Numerals
+pub mod Members
+pub mod Meetings
