@@ -1,4 +1,7 @@
+pub mod Bits
 pub mod Meaning
+pub mod Orders
+pub mod Packed
 pub mod Plain
 pub mod States
 pub mod Steps

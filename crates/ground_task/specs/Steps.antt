@@ -1,7 +1,7 @@
 -- The step of a ground action on states with values of no bounds, and plans (PDDL 2.1, Fox and Long 2003).
 use Rattle.std.specs.Prelude.{ℕ, ◌≡◌, ◌<◌, ◌==◌, ◌||◌, ◌&&◌, not, List, [], ◌∷◌, ℤ, pos, ◌+ℤ◌, Option, Some, None, false, IsTrue, length, slice_get, slice_index_or, Bool, if◌then◌else◌}
 use Rattle.std.specs.List.{list_any}
-use Rattle.num_ends.specs.Decimal.{number_at}
+use Rattle.num_ends.specs.Decimal.{number_at, trimmed}
 use Rattle.ground_task.specs.declared.raw.GExpr.{GExpr}
 use Rattle.ground_task.specs.declared.raw.Change.{Change}
 use Rattle.ground_task.specs.declared.raw.Change.TheVariants.{Add, Set}
@@ -15,9 +15,9 @@ abbrev pub change_of : ℕ → List (ℕ × Change) → Option Change
 change_of x [] = None
 change_of x (effect ∷ effects) = if effect.0 == x then Some effect.1 else change_of x effects
 
--- the value of an expression as a number at a fluent's places
+-- the value of an expression, trimmed, as a number at a fluent's places
 abbrev pub number_for : List ℕ → StateValue → ℕ → GExpr → ℤ
-number_for places s x e = number_at (slice_index_or places x 0) (value_of places s e)
+number_for places s x e = number_at (slice_index_or places x 0) (trimmed (value_of places s e))
 
 -- a fluent's number after a change, with the right-hand side taken in the old state
 abbrev pub changed_number : List ℕ → StateValue → ℕ → Option Change → ℤ

@@ -1,0 +1,5 @@
+use Rattle.std.proofs.Common.{◌≡◌, take}
+use Rattle.ground_task.proofs.copies.actions.Given as goal
+
+abbrev pub invariant-each : goal.invariant-each
+invariant-each l = l.copies.items ≡ take l.action-index l.actions

@@ -1,0 +1,8 @@
+use Rattle.std.proofs.Common.{◌≡◌, ◌<◌, ℕ, false, length, get_or, take}
+use Rattle.ground_task.specs.Tasks.{is_listed}
+use Rattle.ground_task.proofs.first.first_facts.Given as goal
+
+abbrev pub invariant-each : goal.invariant-each
+invariant-each l =
+    (length l.facts ≡ l.count)
+    × ((f : ℕ) → f < l.count → get_or l.facts f false ≡ is_listed (take l.fact-index l.listed) f)
