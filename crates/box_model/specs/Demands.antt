@@ -1,5 +1,5 @@
 -- What a ground action demands of a box, and when a box is closed.
-use Rattle.std.specs.Prelude.{ℕ, ◌+ℤ◌, ◌^◌, List, [], ◌∷◌, Bool, true, false, not, cond as choose, ◌&&◌, ◌||◌, Option, Some, None, pos, ℤ, int_lt, nat_le, nat_lt, unsigned_abs, slice_index_or, if◌then◌else◌, ◌==◌, filter_map, fold, option_map, option_and_then}
+use Rattle.std.specs.Prelude.{ℕ, ◌+ℤ◌, ◌^◌, List, [], ◌∷◌, Bool, true, false, not, cond as choose, ◌&&◌, ◌||◌, Option, Some, None, pos, ℤ, int_lt, nat_le, nat_lt, unsigned_abs, slice_index_or, if◌then◌else◌, ◌==◌, filter_map, fold, option_map, option_and_then, slice_get}
 use Rattle.std.specs.List.{list_all, list_any}
 use Rattle.num_ends.specs.Decimal.{Decimal, trimmed, number_at, origin}
 use Rattle.num_ends.specs.Ends.{Interval, has, point_of, may_less, lower_covers, upper_covers}
@@ -17,6 +17,8 @@ use Rattle.ground_task.specs.declared.raw.Ground.{Ground}
 use Rattle.ground_task.specs.Tasks.{TaskValue}
 use Rattle.box_model.specs.Boxes.{fact_in, fluent_in, may_be}
 use Rattle.box_model.specs.Hold.{may_hold, interval_of}
+use Rattle.box_model.specs.declared.caps.Side.{Side}
+use Rattle.box_model.specs.declared.caps.Side.TheVariants.{Upper, Lower}
 use Rattle.box_model.specs.declared.state_box.StateBox.{StateBox}
 
 -- the constant that an expression is
@@ -60,11 +62,6 @@ exchanged LessEqual = GreaterEqual
 exchanged Equal = Equal
 exchanged GreaterEqual = LessEqual
 exchanged Greater = Less
-
--- the sides of an interval
-pub data Side : Type 0 where
-  Upper : Side
-  Lower : Side
 
 -- the end of this side that a fluent has where it stands so to a number
 abbrev pub end_by : Side → Rel → Decimal → Option End
@@ -131,6 +128,17 @@ cap_on q x c pre (Some side) = option_map (λ e. (side, e)) (innermost side (mov
 abbrev pub cap_of : List ℕ → GCond → ℕ → GExpr → Option (Side × End)
 cap_of places pre x e =
     option_and_then (λ c. cap_on (slice_index_or places x 0) x c pre (side_of c)) (constant_of e)
+
+-- the end of the cap of a change, where it has one
+abbrev pub cap_end : List ℕ → GCond → ℕ → Change → Option End
+cap_end places pre x (Add e) = option_map (λ cap. cap.1) (cap_of places pre x e)
+cap_end places pre x (Set e) = None
+
+-- the same of an effect, by the numbers of its action and its place there
+abbrev pub effect_cap : TaskValue → ℕ → ℕ → Option End
+effect_cap t action effect =
+    option_and_then (λ a. option_and_then (λ e. cap_end t.places a.pre e.0 e.1) (slice_get a.nums effect))
+    (slice_get t.raw.actions action)
 
 abbrev pub is_infinite : End → Bool
 is_infinite NegInf = true

@@ -1,6 +1,17 @@
 //! Boxes of states: an interval per fluent and the possible truth values per fact.
 #![tactic(auto)]
 
+mod around;
+mod caps;
+mod demands;
+mod hold;
+mod laws;
 mod state_box;
+mod states;
 
+pub use caps::{Side, cap_of, cap_under};
+pub use laws::{
+    dead_boxes_have_no_plan, held_conditions_may_hold, plans_stay_in_closed_boxes,
+    steps_stay_in_closed_boxes, wider_boxes_hold_more,
+};
 pub use state_box::{May, StateBox};

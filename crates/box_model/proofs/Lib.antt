@@ -1,0 +1,9 @@
+pub mod EndOrder
+pub mod Soundness
+pub mod Monotony
+pub mod Numbers
+pub mod CapLemmas
+pub mod Closed
+pub mod Trees
+pub mod OneState
+pub mod Positions

@@ -1,0 +1,48 @@
+//! What boxes tell of states, steps and plans, as laws: the functions do nothing, and their
+//! contracts hold for all boxes and states.
+
+ghost use Rattle.std.specs.Prelude.{ℕ, List, IsTrue};
+ghost use Rattle.ground_task.specs.declared.raw.GCond.{GCond};
+ghost use Rattle.ground_task.specs.Meaning.{holds};
+ghost use Rattle.ground_task.specs.Plain.{IsPlain};
+ghost use Rattle.ground_task.specs.States.{StateValue};
+ghost use Rattle.ground_task.specs.Steps.{StepLeads, PlanLeads, IsPlanFrom};
+ghost use Rattle.ground_task.specs.Tasks.{TaskValue};
+ghost use Rattle.box_model.specs.declared.state_box.StateBox.{StateBox};
+ghost use Rattle.box_model.specs.Boxes.{Contains, LiesWithin};
+ghost use Rattle.box_model.specs.Demands.{is_closed};
+ghost use Rattle.box_model.specs.Hold.{may_hold};
+ghost use Rattle.box_model.specs.Least.{IsDead};
+
+/// A condition that holds in a state of a box may hold in the box.
+pub fn held_conditions_may_hold()
+    ensures { (places : List ℕ) (b : StateBox) (s : StateValue) (c : GCond)
+        → Contains places b s → IsTrue (holds places s c) → IsTrue (may_hold b c) }
+{}
+
+/// What may hold in a box may hold in each box around it.
+pub fn wider_boxes_hold_more()
+    ensures { (b c : StateBox) (g : GCond)
+        → LiesWithin b c → IsTrue (may_hold b g) → IsTrue (may_hold c g) }
+{}
+
+/// A step from a state in a closed box leads into the box.
+pub fn steps_stay_in_closed_boxes()
+    ensures { (t : TaskValue) (b : StateBox) (s next : StateValue) (number : ℕ)
+        → IsPlain t.raw t.places → IsTrue (is_closed t b) → Contains t.places b s
+        → StepLeads t number s next → Contains t.places b next }
+{}
+
+/// A list of actions from a state in a closed box leads into the box.
+pub fn plans_stay_in_closed_boxes()
+    ensures { (t : TaskValue) (b : StateBox) (s last : StateValue) (numbers : List ℕ)
+        → IsPlain t.raw t.places → IsTrue (is_closed t b) → Contains t.places b s
+        → PlanLeads t numbers s last → Contains t.places b last }
+{}
+
+/// No list of actions leads from a state in a dead box to the goal.
+pub fn dead_boxes_have_no_plan()
+    ensures { (t : TaskValue) (b : StateBox) (s : StateValue) (numbers : List ℕ)
+        → IsPlain t.raw t.places → IsDead t b → Contains t.places b s
+        → IsPlanFrom t s numbers → ⊥ }
+{}

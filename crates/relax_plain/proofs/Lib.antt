@@ -1,0 +1,4 @@
+pub mod IntervalLemmas
+pub mod BoxLemmas
+pub mod DemandLemmas
+pub mod RoundLemmas
