@@ -1,0 +1,15 @@
+-- Adapters over what the machine has.
+use Rattle.std.specs.Prelude.{ℕ, Bool}
+
+-- a writer, and the count of its faults
+pub record WriterState (W : Type 0) : Type 0 where
+  pub writer : W
+  pub faults : ℕ
+
+-- files of the machine, by the counts that are kept
+pub record ReaderState : Type 0 where
+  pub is_open : Bool
+  pub faults : ℕ
+  -- how many calls of `begin` there were, and the count of faults as the last of them was made
+  pub begun : ℕ
+  pub mark : ℕ

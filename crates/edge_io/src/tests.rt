@@ -1,0 +1,171 @@
+//! The fakes by tables, and each adapter over the machine.
+
+use super::*;
+use num_ends::{List, NoMemory, Text};
+use std::alloc::{AllocError, Global};
+use std::io::Write;
+use std::test::Fail;
+use std::{fs, io};
+
+fn text(alloc: Global, bytes: &[u8]) -> Result<Text, AllocError> {
+    Ok(Text::from_vec(bytes.to_vec(alloc)?))
+}
+
+// Two files of one name, and a third.
+fn three_files(alloc: Global) -> Result<List<(Text, Text)>, NoMemory> {
+    let mut files = List::new(alloc);
+    for (name, bytes) in [("a", "first"), ("a", "second"), ("b", "")] {
+        files.push((
+            text(alloc, name.as_bytes())?,
+            text(alloc, bytes.as_bytes())?,
+        ))?;
+    }
+    Ok(files)
+}
+
+fn fetch<F: Files>(
+    alloc: Global,
+    files: &mut F,
+    name: &[u8],
+    limit: u32,
+) -> Result<Vec<u8>, ReadFault> {
+    files.begin(name)?;
+    read_whole(alloc, files, limit)
+}
+
+// The fetch from files of which that call fails gives those bytes, or fails where none are wanted.
+fn gives(
+    alloc: Global,
+    call: u64,
+    name: &str,
+    limit: u32,
+    want: Option<&str>,
+) -> Result<bool, NoMemory> {
+    let fails = List::from_vec([call].to_vec(alloc)?);
+    let mut files = MemoryFiles::new(three_files(alloc)?, fails);
+    Ok(match fetch(alloc, &mut files, name.as_bytes(), limit) {
+        Ok(bytes) => want.is_some_and(|want| bytes.as_slice() == want.as_bytes()),
+        Err(fault) => want.is_none() && fault == ReadFault::Failed,
+    })
+}
+
+#[test]
+fn memory_files(rt: HostRuntime) -> Result<(), Fail> {
+    for (call, name, limit, want) in [
+        (0, "a", 100, Some("first")),
+        (0, "a", 5, Some("first")),
+        (0, "a", 4, Some("first")),
+        (0, "a", 3, Some("firs")),
+        (0, "b", 0, Some("")),
+        (0, "c", 100, None),
+        (1, "a", 100, None),
+        (2, "a", 100, None),
+        (3, "a", 100, None),
+        (4, "a", 100, Some("first")),
+    ] {
+        assert!(rt;
+            gives(rt.alloc(), call, name, limit, want)?,
+            "{name} to {limit}, call {call}"
+        );
+    }
+    Ok(())
+}
+
+// Two texts, written to a sink of that room and of which that call fails, all go there or not, and
+// leave those bytes.
+fn leaves(alloc: Global, room: u32, call: u64, goes: bool, want: &str) -> Result<bool, NoMemory> {
+    let fails = List::from_vec([call].to_vec(alloc)?);
+    let mut sink = MemorySink::new(alloc, room, fails)?;
+    let went = write_whole(&mut sink, b"twice ").and_then(|_| write_whole(&mut sink, b"again"));
+    Ok(went.is_ok() == goes && sink.bytes() == want.as_bytes())
+}
+
+#[test]
+fn memory_sink(rt: HostRuntime) -> Result<(), Fail> {
+    for (room, call, goes, want) in [
+        (100, 0, true, "twice again"),
+        (11, 0, true, "twice again"),
+        (10, 0, false, "twice agai"),
+        (0, 0, false, ""),
+        (100, 1, false, ""),
+        (100, 2, false, "twice "),
+    ] {
+        assert!(rt;
+            leaves(rt.alloc(), room, call, goes, want)?,
+            "room {room}, call {call}"
+        );
+    }
+    Ok(())
+}
+
+#[test]
+fn real_files(rt: HostRuntime) -> Result<(), Fail> {
+    let long = vec![in rt.alloc(); b'x'; 65_537]?;
+    fs::write(&rt, "long", long.as_slice())?;
+    fs::write(&rt, "short", "short")?;
+    let mut files = RealFiles::new(&rt);
+    assert_eq!(rt;
+        fetch(rt.alloc(), &mut files, b"short", 100)?.as_slice(),
+        b"short".as_slice()
+    );
+    assert_eq!(rt;
+        fetch(rt.alloc(), &mut files, b"none", 100).err(),
+        Some(ReadFault::Failed)
+    );
+    assert_eq!(rt;
+        fetch(rt.alloc(), &mut files, b"\xff", 100).err(),
+        Some(ReadFault::Failed)
+    );
+    assert_eq!(rt;
+        fetch(rt.alloc(), &mut files, b"long", 99_999)?.as_slice(),
+        long.as_slice()
+    );
+    assert_eq!(rt;
+        fetch(rt.alloc(), &mut files, b"long", 65_535)?.len(),
+        65_536
+    );
+    Ok(())
+}
+
+// Takes one byte of each piece, until it is full.
+#[derive(Drop)]
+struct Narrow<'a> {
+    taken: &'a mut Vec<u8>,
+    room: usize,
+}
+
+impl Write for Narrow<'_> {
+    fn write(&mut self, buf: &[u8]) -> io::Result<usize> {
+        match buf.first() {
+            Some(byte) if self.room > 0 => {
+                self.taken.push(*byte)?;
+                self.room -= 1;
+                Ok(1)
+            }
+            _ => Ok(0),
+        }
+    }
+
+    fn flush(&mut self) -> io::Result<()> {
+        Ok(())
+    }
+}
+
+#[test]
+fn real_sink(rt: HostRuntime) -> Result<(), Fail> {
+    for (room, goes, want) in [(0, false, ""), (3, false, "wor"), (5, true, "words")] {
+        let mut taken = Vec::new(rt.alloc());
+        let mut sink = RealSink::new(Narrow {
+            taken: &mut taken,
+            room,
+        });
+        assert_eq!(rt;
+            write_whole(&mut sink, b"words").is_ok(),
+            goes,
+            "at room {room}"
+        );
+        drop(sink);
+        assert_eq!(rt; taken.as_slice(), want.as_bytes(), "at room {room}");
+    }
+    Ok(())
+}
