@@ -1,0 +1,13 @@
+//! The words after the program's name, read as a job.
+#![tactic(auto)]
+
+mod command_line;
+mod job;
+mod options;
+mod read;
+#[cfg(test)]
+mod tests;
+mod values;
+
+pub use job::{Command, Job, WordsFault};
+pub use read::read_words;
