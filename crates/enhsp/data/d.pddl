@@ -1,0 +1,1 @@
+(define (domain d) (:functions (x)) (:action inc :effect (increase (x) 1)))

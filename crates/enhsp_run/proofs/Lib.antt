@@ -1,0 +1,5 @@
+pub mod Ends
+pub mod Faults
+pub mod FrontOf
+pub mod OfJob
+pub mod Relaxation

@@ -1,0 +1,11 @@
+-- Which answers have a text: a box is of its task.
+use Rattle.std.specs.Prelude.{⊤}
+use Rattle.box_model.specs.Boxes.{IsBoxOf}
+use Rattle.enhsp_run.specs.declared.answer.Answer.{Answer}
+use Rattle.enhsp_run.specs.declared.answer.Answer.TheVariants.{Relaxed, Unbuilt, Usage, FileFault}
+
+abbrev pub IsWritable : Answer → Type 0
+IsWritable (Relaxed t b) = IsBoxOf t b
+IsWritable Unbuilt = ⊤
+IsWritable Usage = ⊤
+IsWritable (FileFault name) = ⊤
