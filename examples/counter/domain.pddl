@@ -1,0 +1,4 @@
+; A counter that can only go up.
+(define (domain counter)
+ (:functions (count))
+ (:action increment :effect (increase (count) 1)))
