@@ -117,7 +117,7 @@ place_of c =
     under : (x : ℤ) → int_le top_number x ≡ false → int_lt x top_number ≡ true
     under x g = sym (true_is_lt x top_number (omega (arith, ints)))
 
-hull_first : (a b : End) → lower_covers a b ≡ true → lower_hull a b ≡ a
+pub hull_first : (a b : End) → lower_covers a b ≡ true → lower_hull a b ≡ a
 hull_first a b h = rw h refl
 
 hull_second : (a b : End) → lower_covers a b ≡ false → lower_hull a b ≡ b
@@ -229,7 +229,7 @@ lower_hull_level P x y lx ly = elim (cases_Bool (lower_covers x y)) [ inl t ↦ 
 
 -- ---- the same for upper ends, mirrored
 
-covers_mirrored : (u v : End) → lower_covers (mirrored_end u) (mirrored_end v) ≡ upper_covers u v
+pub covers_mirrored : (u v : End) → lower_covers (mirrored_end u) (mirrored_end v) ≡ upper_covers u v
 covers_mirrored NegInf NegInf = refl
 covers_mirrored NegInf (Excl b) = refl
 covers_mirrored NegInf (Incl b) = refl
@@ -247,7 +247,7 @@ covers_mirrored PosInf (Excl b) = refl
 covers_mirrored PosInf (Incl b) = refl
 covers_mirrored PosInf PosInf = refl
 
-hull_mirrored : (u v : End) → mirrored_end (upper_hull u v) ≡ lower_hull (mirrored_end u) (mirrored_end v)
+pub hull_mirrored : (u v : End) → mirrored_end (upper_hull u v) ≡ lower_hull (mirrored_end u) (mirrored_end v)
 hull_mirrored u v =
     elim (cases_Bool (upper_covers u v)) [
       | inl t ↦ rw (covers_mirrored u v, t) refl
@@ -270,7 +270,7 @@ closed_mirrored d = rw (neg_lt top_number d.n, neg_lt d.n bottom_number) (pick (
     pick false true = refl
     pick false false = refl
 
-outward_mirrored : (u : End) → mirrored_end (outward_upper u) ≡ outward_lower (mirrored_end u)
+pub outward_mirrored : (u : End) → mirrored_end (outward_upper u) ≡ outward_lower (mirrored_end u)
 outward_mirrored NegInf = refl
 outward_mirrored (Excl d) = open_mirrored d
 outward_mirrored (Incl d) = closed_mirrored d
@@ -302,7 +302,7 @@ upper_hull_level P x y lx ly = elim (cases_Bool (upper_covers x y)) [ inl t ↦ 
 
 -- ---- products of intervals
 
-level_of_places : (P : ℕ) (e : End) → HasPlaces P e → EndLevel P e
+pub level_of_places : (P : ℕ) (e : End) → HasPlaces P e → EndLevel P e
 level_of_places P NegInf h = tt
 level_of_places P (Excl d) h = inl h
 level_of_places P (Incl d) h = inl h
@@ -326,7 +326,7 @@ exact_level p q (Incl x) (Incl y) h k = inl (omega arith)
 exact_level p q (Incl x) PosInf h k = infinite_level (p + q) (int_lt x.n (pos 0)) false
 exact_level p q PosInf b h k = infinite_level (p + q) false (is_negative_end b)
 
-product_level : (p q : ℕ) (a b : End) → HasPlaces p a → HasPlaces q b → EndLevel (p + q) (end_product a b)
+pub product_level : (p q : ℕ) (a b : End) → HasPlaces p a → HasPlaces q b → EndLevel (p + q) (end_product a b)
 product_level p q a b h k =
     elim (cases_Bool (is_closed_zero a || is_closed_zero b)) [
       | inl t ↦ subst (EndLevel (p + q)) (sym (cond-true (is_closed_zero a || is_closed_zero b) (Incl origin) (cond (is_open_zero a || is_open_zero b) (Excl origin) (exact_product a b)) t)) (inr refl)

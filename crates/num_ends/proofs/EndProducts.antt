@@ -59,7 +59,7 @@ infinite_above = record { closed = refl; open_end = refl }
 
 -- ---- signs along the order
 
-positive_up : (x a : Decimal) → IsPositive x → is_at_most x a ≡ true → IsPositive a
+pub positive_up : (x a : Decimal) → IsPositive x → is_at_most x a ≡ true → IsPositive a
 positive_up x a h k = sym (zero_less origin a refl) ∙ less_most_trans origin x a (zero_less origin x refl ∙ h) k
 
 zero_up : (x a : Decimal) → IsZero x → is_less x a ≡ true → IsPositive a

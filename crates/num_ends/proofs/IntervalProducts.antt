@@ -28,13 +28,13 @@ negative_factor u k v a b nb h m n =
 
 -- ---- a factor that is 0
 
-zero_above : (d : Decimal) → IsZero d → is_at_most origin d ≡ true
+pub zero_above : (d : Decimal) → IsZero d → is_at_most origin d ≡ true
 zero_above d z = zero_at_most origin d refl ∙ ap (λ (x : ℤ). int_le (pos 0) x) z
 
-product_zero : (a b : Decimal) → IsZero b → IsZero (product_of a b)
+pub product_zero : (a b : Decimal) → IsZero b → IsZero (product_of a b)
 product_zero a b z = ap (λ (x : ℤ). a.n *ℤ x) z ∙ *ℤ-zero a.n
 
-positive_from : (c : Decimal) → int_eq c.n (pos 0) ≡ false → int_lt c.n (pos 0) ≡ false → IsPositive c
+pub positive_from : (c : Decimal) → int_eq c.n (pos 0) ≡ false → int_lt c.n (pos 0) ≡ false → IsPositive c
 positive_from c x m =
     elim (sign_of c) [
       | inl z ↦ absurd (true≢false (sym (zero_is_zero c z) ∙ x))

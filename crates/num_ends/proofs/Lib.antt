@@ -1,5 +1,6 @@
 pub mod DecimalOrder
 pub mod OrderSteps
+pub mod SamePlaces
 pub mod Zeros
 pub mod Operations
 pub mod EndProducts
@@ -8,6 +9,8 @@ pub mod Known
 pub mod OutwardSteps
 pub mod Clips
 pub mod IntervalProducts
+pub mod Widening
+pub mod WiderProducts
 pub mod Inverses
 pub mod Arithmetics
 pub mod Numerals

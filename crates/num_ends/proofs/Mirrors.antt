@@ -147,7 +147,7 @@ zero_cases e =
       ]
     ]
 
-not_closed : (e : End) → ((is_closed_zero e ≡ false) × (is_open_zero e ≡ true)) ⊎ NotZero e → is_closed_zero e ≡ false
+pub not_closed : (e : End) → ((is_closed_zero e ≡ false) × (is_open_zero e ≡ true)) ⊎ NotZero e → is_closed_zero e ≡ false
 not_closed e (inl h) = h.0
 not_closed e (inr x) = x.closed
 

@@ -66,11 +66,11 @@ outward_upper_covers PosInf = refl
 le_itself : (x : ℤ) → int_le x x ≡ true
 le_itself x = sym (true_is_le x x (omega arith))
 
-aligned_least : (q : ℕ) (d : Decimal) → d.p ≤ q → is_at_most (aligned q d) d ≡ true
+pub aligned_least : (q : ℕ) (d : Decimal) → d.p ≤ q → is_at_most (aligned q d) d ≡ true
 aligned_least q d h =
     most_at q (aligned q d) d (omega arith) h ∙ ap (λ (x : ℤ). int_le x (number_at q d)) (no_place_more q (aligned q d) refl) ∙ le_itself (number_at q d)
 
-aligned_most : (q : ℕ) (d : Decimal) → d.p ≤ q → is_at_most d (aligned q d) ≡ true
+pub aligned_most : (q : ℕ) (d : Decimal) → d.p ≤ q → is_at_most d (aligned q d) ≡ true
 aligned_most q d h =
     most_at q d (aligned q d) h (omega arith) ∙ ap (λ (x : ℤ). int_le (number_at q d) x) (no_place_more q (aligned q d) refl) ∙ le_itself (number_at q d)
 

@@ -1,7 +1,7 @@
 pub mod Decimal
 pub mod Ends
-pub mod Names
 pub mod Texts
+pub mod Names
 pub mod Reading
 pub mod Laws
 pub mod Arithmetic

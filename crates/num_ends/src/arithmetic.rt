@@ -10,6 +10,7 @@ use crate::order::ten_to;
 use std::cmp::Ordering;
 
 impl Dec {
+    #[inline]
     fn from_number(n: i128, p: u8) -> Result<Dec, Range>
         requires { p ≤ 18 }
         ensures { MatchResult result (λ d. (d ≡ record { n = n; p = p }) × InRange n) (λ fault. InRange n → ⊥) }
@@ -37,6 +38,7 @@ impl Dec {
     }
 
     /// The sum at equal places.
+    #[inline]
     pub(crate) fn add_numbers(self, other: Dec) -> Result<Dec, Range>
         ensures { MatchResult result (λ d. (d ≡ record { n = self.n +ℤ other.n; p = self.p }) × InRange (self.n +ℤ other.n)) (λ fault. InRange (self.n +ℤ other.n) → ⊥) }
     {
@@ -47,6 +49,7 @@ impl Dec {
     }
 
     /// The difference at equal places.
+    #[inline]
     fn subtract_numbers(self, other: Dec) -> Result<Dec, Range>
         ensures { MatchResult result (λ d. (d ≡ record { n = self.n -ℤ other.n; p = self.p }) × InRange (self.n -ℤ other.n)) (λ fault. InRange (self.n -ℤ other.n) → ⊥) }
     {
@@ -68,26 +71,39 @@ impl Dec {
 
     /// The sum. Both are brought to the larger of their counts of places first; `Range` where an operand at those
     /// places, or the sum, leaves the range.
+    #[inline]
     pub fn add(self, other: Dec) -> Result<Dec, Range>
         ensures { MatchResult result (λ d. (d ≡ sum_of self other) × SumFits self other) (λ fault. SumFits self other → ⊥) }
     {
+        if self.p == other.p {
+            return self.add_numbers(other);
+        }
         let (first, second) = self.align_both(other)?;
         first.add_numbers(second)
     }
 
     /// The difference, likewise.
+    #[inline]
     pub fn sub(self, other: Dec) -> Result<Dec, Range>
         ensures { MatchResult result (λ d. (d ≡ difference_of self other) × DifferenceFits self other) (λ fault. DifferenceFits self other → ⊥) }
     {
+        if self.p == other.p {
+            return self.subtract_numbers(other);
+        }
         let (first, second) = self.align_both(other)?;
         first.subtract_numbers(second)
     }
 
     /// Compares the values. Both are brought to the larger of their counts of places first; `Range` where one of them
     /// leaves the range there.
+    #[inline]
+    #[tactic(auto, using(crate::proofs::SamePlaces::operands_fit, crate::proofs::SamePlaces::same_order))]
     pub fn compare(self, other: Dec) -> Result<Ordering, Range>
         ensures { MatchResult result (λ o. (o ≡ order_of self other) × OperandsFit self other) (λ fault. OperandsFit self other → ⊥) }
     {
+        if self.p == other.p {
+            return Ok(self.order_of_numbers(other));
+        }
         let (first, second) = self.align_both(other)?;
         Ok(first.order_of_numbers(second))
     }

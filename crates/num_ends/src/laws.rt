@@ -1,13 +1,13 @@
 //! Laws of decimals and intervals over members, for every count of places and numbers of any size. Each function
 //! states one and does nothing.
 
-ghost use Rattle.std.specs.Prelude.{◌≡◌, ◌↔◌, ◌≤◌, ℕ, List, Bool, IsTrue, not};
+ghost use Rattle.std.specs.Prelude.{◌≡◌, ◌↔◌, ℕ, List, Bool, IsTrue, not};
 ghost use Rattle.num_ends.specs.Decimal.{Decimal, is_less, is_at_most, is_same_value, sum_of, difference_of, product_of};
 ghost use Rattle.num_ends.specs.declared.ends.End.{End};
 ghost use Rattle.num_ends.specs.Ends.{Interval, has, is_above, is_below, lower_covers, upper_covers, is_within, hull_of, may_less, may_less_equal, may_equal};
 ghost use Rattle.num_ends.specs.Texts.{IsNumeral};
-ghost use Rattle.num_ends.specs.Arithmetic.{end_places, outward_of, interval_sum, interval_difference, interval_product};
-ghost use Rattle.num_ends.specs.Laws.{IsInhabited, HasMember, MeetLess, MeetAtMost, MeetEqual, HoldsMembers};
+ghost use Rattle.num_ends.specs.Arithmetic.{end_at, outward_of, interval_sum, interval_difference, interval_product};
+ghost use Rattle.num_ends.specs.Laws.{IsInhabited, HasMember, MeetLess, MeetAtMost, MeetEqual, HoldsMembers, PlacesUpTo, BothPlaces, FitsLower, FitsUpper};
 
 /// Decimals are in one total order, up to equal values.
 pub fn order()
@@ -60,9 +60,18 @@ pub fn arithmetic()
     ensures product { (i j : Interval) (a b : Decimal) → IsTrue (has i a) → IsTrue (has j b) → IsTrue (has (interval_product i j) (product_of a b)) }
 {}
 
-/// An interval is within the one that is moved outward.
+/// An interval is within the one that is moved outward, a wider one gives a wider one, and ends that fit stay.
 pub fn outward()
-    ensures { (q : ℕ) (i : Interval) → end_places i.0 ≤ q → end_places i.1 ≤ q → IsTrue (is_within i (outward_of q i)) }
+    ensures around { (q : ℕ) (i : Interval) → PlacesUpTo q i → IsTrue (is_within i (outward_of q i)) }
+    ensures wider { (q : ℕ) (i j : Interval) → PlacesUpTo q i → PlacesUpTo q j → IsTrue (is_within i j) → IsTrue (is_within (outward_of q i) (outward_of q j)) }
+    ensures kept { (q : ℕ) (i : Interval) → FitsLower q i.0 → FitsUpper q i.1 → outward_of q i ≡ (end_at q i.0, end_at q i.1) }
+{}
+
+/// Wider intervals give wider ones, where the places of the ends are the same.
+pub fn widening()
+    ensures sum { (p q : ℕ) (i j m n : Interval) → BothPlaces p i m → BothPlaces q j n → IsInhabited i → IsInhabited j → IsTrue (is_within i m) → IsTrue (is_within j n) → IsTrue (is_within (interval_sum i j) (interval_sum m n)) }
+    ensures difference { (p q : ℕ) (i j m n : Interval) → BothPlaces p i m → BothPlaces q j n → IsInhabited i → IsInhabited j → IsTrue (is_within i m) → IsTrue (is_within j n) → IsTrue (is_within (interval_difference i j) (interval_difference m n)) }
+    ensures product { (p q : ℕ) (i j m n : Interval) → BothPlaces p i m → BothPlaces q j n → IsInhabited i → IsInhabited j → IsTrue (is_within i m) → IsTrue (is_within j n) → IsTrue (is_within (interval_product i j) (interval_product m n)) }
 {}
 
 /// A text writes one decimal at most.

@@ -77,6 +77,7 @@ impl Dec {
         }
     }
 
+    #[inline]
     pub(crate) fn order_of_numbers(self, other: Dec) -> Ordering
         ensures { result ≡ int_cmp self.n other.n }
     {
@@ -84,6 +85,7 @@ impl Dec {
     }
 
     /// Compares the values, exactly, whatever their places.
+    #[inline]
     #[tactic(auto, using(crate::proofs::OrderSteps::same_places))]
     pub fn order(self, other: Dec) -> Ordering
         ensures { result ≡ order_of self other }
