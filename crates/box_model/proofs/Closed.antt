@@ -20,8 +20,8 @@ use Rattle.ground_task.specs.declared.raw.GCond.{GCond}
 use Rattle.ground_task.specs.declared.raw.Change.{Change}
 use Rattle.ground_task.specs.declared.raw.Change.TheVariants.{Add, Set}
 use Rattle.ground_task.specs.declared.raw.Ground.{Ground}
-use Rattle.box_model.specs.Boxes.{fact_in, fluent_in, may_be, Contains}
-use Rattle.box_model.specs.Hold.{interval_of, may_hold}
+use Rattle.box_model.specs.Boxes.{fact_in, fluent_in, may_be, Contains, IsBoxOf}
+use Rattle.box_model.specs.Hold.{interval_of, may_hold, read_interval}
 use Rattle.box_model.specs.declared.caps.Side.{Side}
 use Rattle.box_model.specs.declared.caps.Side.TheVariants.{Upper, Lower}
 use Rattle.box_model.specs.Demands.{constant_of, side_of, innermost, moved_ends, cap_on, covers, end_on, is_infinite, implies, meets_growth, meets_value, meets_change, meets, is_unmet, is_closed}
@@ -34,6 +34,7 @@ use Rattle.num_ends.proofs.Members.{above_covered, below_covered, above_rises, b
 use Rattle.box_model.proofs.EndOrder.{above_infinite, below_infinite}
 use Rattle.box_model.proofs.Numbers.{at_places, number_same, nothing_at, rises, falls, trimmed_rises, trimmed_falls, trimmed_places, has_trimmed}
 use Rattle.box_model.proofs.CapLemmas.{lets_in, some_same, option_cases, constant_value, cap_lets_in}
+use Rattle.box_model.proofs.ReadLemmas.{AreEndsFor, AllFit, all_fit, fits_anywhere, has_read}
 use Rattle.box_model.proofs.Soundness.{fact_inside, fluent_inside, value_inside, holds_sound}
 
 -- ---- whole numbers
@@ -99,7 +100,7 @@ moves Lower c e = trimmed_falls c (lower_of (int_lt (pos 0) c.n) (int_lt c.n (po
 -- ---- one change
 
 -- the old value v, and d, which has at most q places
-module _ (q : ℕ) (i by : Interval) (v : ℤ) (d : Decimal) (few : d.p ≤ q) (old : has i (at_places q v) ≡ true) (inside : has by d ≡ true) where
+module _ (q : ℕ) (i by : Interval) (v : ℤ) (d : Decimal) (few : d.p ≤ q) (fits : AreEndsFor q i) (old : has i (at_places q v) ≡ true) (inside : has by d ≡ true) where
   abbrev g : ℤ
   g = number_at q d
 
@@ -146,20 +147,21 @@ module _ (q : ℕ) (i by : Interval) (v : ℤ) (d : Decimal) (few : d.p ≤ q) (
       let parts = and_parts (is_above i.0 d) _ h in
       and_from _ _ (above_rises i.0 d (at_places q g) same_value parts.0) (below_falls i.1 (at_places q g) d same_value' parts.1)
 
-  pub assigned_inside : meets_value None i by ≡ true → has i (at_places q g) ≡ true
+  pub assigned_inside : meets_value None q i by ≡ true → has i (at_places q g) ≡ true
   assigned_inside h =
-      let parts = and_parts (implies (may_less i by) (is_infinite i.1)) _ h in
+      let moved = read_interval q i in
+      let parts = and_parts (implies (may_less moved by) (is_infinite i.1)) _ h in
       let w = at_places q v in
       elim (cases_numbers v g) [
         | inl up' ↦
             let more : is_less w d ≡ true = less_numbers q w d (omega arith) few (ap (λ (m : ℤ). int_lt m g) (number_same q w refl) ∙ up') in
-            let may : may_less i by ≡ true = less_met i by w d old inside more in
+            let may : may_less moved by ≡ true = less_met moved by w d (has_read q i w fits old) inside more in
             and_from _ _ (above_rises i.0 w (at_places q g) (at_most v g (lt_le v g up')) above_old)
             (below_infinite i.1 w (at_places q g) (implied _ _ parts.0 may) below_old)
         | inr rest ↦ elim rest [
           | inl down' ↦
               let less : is_less d w ≡ true = less_numbers q d w few (omega arith) (ap (int_lt g) (number_same q w refl) ∙ down') in
-              let may : may_less by i ≡ true = less_met by i d w inside old less in
+              let may : may_less by moved ≡ true = less_met by moved d w inside (has_read q i w fits old) less in
               and_from _ _ (above_infinite i.0 w (at_places q g) (implied _ _ parts.1 may) above_old)
               (below_falls i.1 (at_places q g) w (at_most g v (lt_le g v down')) below_old)
           | inr same ↦ subst (λ (m : ℤ). has i (at_places q m) ≡ true) same old
@@ -177,9 +179,12 @@ module _ (q : ℕ) (i by : Interval) (v : ℤ) (d : Decimal) (few : d.p ≤ q) (
 
 -- ---- the changes of an action
 
-module _ (places : List ℕ) (b : StateBox) (s : StateValue) (inside : Contains places b s) (pre : GCond) (applies : holds places s pre ≡ true) (x : ℕ) where
+module _ (places : List ℕ) (b : StateBox) (s : StateValue) (inside : Contains places b s) (fits : AllFit places b) (pre : GCond) (applies : holds places s pre ≡ true) (x : ℕ) where
   abbrev q : ℕ
   q = get_or places x 0
+
+  here : AreEndsFor q (fluent_in b x)
+  here = fits_anywhere places b fits x
 
   old_inside : has (fluent_in b x) (at_places q (get_or s.values x (pos 0))) ≡ true
   old_inside = fluent_inside places b s inside x
@@ -200,46 +205,46 @@ module _ (places : List ℕ) (b : StateBox) (s : StateValue) (inside : Contains 
             let lets : lets_in side some.0 w ≡ true =
             subst (λ (m : ℤ). lets_in side some.0 (at_places q (m +ℤ number_at q (trimmed c))) ≡ true) (number_same q (fluent_value places s x) refl)
             (cap_lets_in places s side x c pre some.0 applies some.1) in
-            capped_inside q (fluent_in b x) (point_of (trimmed c)) (get_or s.values x (pos 0)) (trimmed c) few old_inside
+            capped_inside q (fluent_in b x) (point_of (trimmed c)) (get_or s.values x (pos 0)) (trimmed c) few here old_inside
             (and_from _ _ (most_refl (trimmed c)) (most_refl (trimmed c))) side some.0 (moves side c o) lets met
       ]
 
   abbrev value : GExpr → Decimal
   value e = trimmed (value_of places s e)
 
-  value_in : (e : GExpr) → has (interval_of b e) (value e) ≡ true
-  value_in e = has_trimmed (interval_of b e) (value_of places s e) (value_inside places b s inside e)
+  value_in : (e : GExpr) → has (interval_of places b e) (value e) ≡ true
+  value_in e = has_trimmed (interval_of places b e) (value_of places s e) (value_inside places b s inside fits e)
 
   pub change_inside : (change : Change) → (value (right_side change)).p ≤ q → meets_change places b pre x change ≡ true →
       has (fluent_in b x) (at_places q (changed_number places s x (Some change))) ≡ true
   change_inside (Add e) few h =
       elim (option_cases (constant_of e)) [
         | inl none ↦
-            grown_inside q (fluent_in b x) (interval_of b e) (get_or s.values x (pos 0)) (value e) few old_inside (value_in e)
-            (subst (λ (o : Option Decimal). meets_growth (option_and_then (λ c. cap_on q x c pre (side_of c)) o) (fluent_in b x) (interval_of b e) ≡ true) none h)
+            grown_inside q (fluent_in b x) (interval_of places b e) (get_or s.values x (pos 0)) (value e) few here old_inside (value_in e)
+            (subst (λ (o : Option Decimal). meets_growth (option_and_then (λ c. cap_on q x c pre (side_of c)) o) (fluent_in b x) (interval_of places b e) ≡ true) none h)
         | inr some ↦
-            let at : meets_growth (cap_on q x some.0 pre (side_of some.0)) (fluent_in b x) (interval_of b e) ≡ true =
-            subst (λ (o : Option Decimal). meets_growth (option_and_then (λ c. cap_on q x c pre (side_of c)) o) (fluent_in b x) (interval_of b e) ≡ true) some.1 h in
+            let at : meets_growth (cap_on q x some.0 pre (side_of some.0)) (fluent_in b x) (interval_of places b e) ≡ true =
+            subst (λ (o : Option Decimal). meets_growth (option_and_then (λ c. cap_on q x c pre (side_of c)) o) (fluent_in b x) (interval_of places b e) ≡ true) some.1 h in
             elim (option_cases (cap_on q x some.0 pre (side_of some.0))) [
               | inl uncapped ↦
-                  grown_inside q (fluent_in b x) (interval_of b e) (get_or s.values x (pos 0)) (value e) few old_inside (value_in e)
-                  (subst (λ (o : Option (Side × End)). meets_growth o (fluent_in b x) (interval_of b e) ≡ true) uncapped at)
+                  grown_inside q (fluent_in b x) (interval_of places b e) (get_or s.values x (pos 0)) (value e) few here old_inside (value_in e)
+                  (subst (λ (o : Option (Side × End)). meets_growth o (fluent_in b x) (interval_of places b e) ≡ true) uncapped at)
               | inr capped ↦
                   let is : value_of places s e ≡ some.0 = constant_value places s e some.0 some.1 in
                   subst (λ (d : Decimal). has (fluent_in b x) (at_places q (get_or s.values x (pos 0) +ℤ number_at q (trimmed d))) ≡ true) (sym is)
                   (cap_inside some.0 (subst (λ (d : Decimal). (trimmed d).p ≤ q) is few) (side_of some.0) capped.0 refl capped.1
-                  (subst (λ (o : Option (Side × End)). meets_growth o (fluent_in b x) (interval_of b e) ≡ true) capped.1 at))
+                  (subst (λ (o : Option (Side × End)). meets_growth o (fluent_in b x) (interval_of places b e) ≡ true) capped.1 at))
             ]
       ]
   change_inside (Set e) few h =
       elim (option_cases (constant_of e)) [
         | inl none ↦
-            assigned_inside q (fluent_in b x) (interval_of b e) (get_or s.values x (pos 0)) (value e) few old_inside (value_in e)
-            (subst (λ (o : Option Decimal). meets_value o (fluent_in b x) (interval_of b e) ≡ true) none h)
+            assigned_inside q (fluent_in b x) (interval_of places b e) (get_or s.values x (pos 0)) (value e) few here old_inside (value_in e)
+            (subst (λ (o : Option Decimal). meets_value o q (fluent_in b x) (interval_of places b e) ≡ true) none h)
         | inr some ↦
-            constant_inside q (fluent_in b x) (interval_of b e) (get_or s.values x (pos 0)) (value e) few old_inside (value_in e)
+            constant_inside q (fluent_in b x) (interval_of places b e) (get_or s.values x (pos 0)) (value e) few here old_inside (value_in e)
             (subst (λ (d : Decimal). has (fluent_in b x) (trimmed d) ≡ true) (sym (constant_value places s e some.0 some.1))
-            (has_trimmed (fluent_in b x) some.0 (subst (λ (o : Option Decimal). meets_value o (fluent_in b x) (interval_of b e) ≡ true) some.1 h)))
+            (has_trimmed (fluent_in b x) some.0 (subst (λ (o : Option Decimal). meets_value o q (fluent_in b x) (interval_of places b e) ≡ true) some.1 h)))
       ]
 
   -- each right-hand side, trimmed, has at most the places of its fluent
@@ -284,12 +289,27 @@ fact_after m false false false h a d = h
 
 -- ---- steps and plans
 
-module _ (t : TaskValue) (b : StateBox) where
-  -- the right-hand sides of an action, trimmed, have at most the places of their fluents
-  abbrev pub HasFewPlaces : StateValue → Ground → Type 0
-  HasFewPlaces s a = All (λ effect. (trimmed (value_of t.places s (right_side effect.1))).p ≤ get_or t.places effect.0 0) a.nums
+-- the right-hand sides of an action, trimmed, have at most the places of their fluents
+abbrev pub HasFewPlaces : TaskValue → StateValue → Ground → Type 0
+HasFewPlaces t s a = All (λ effect. (trimmed (value_of t.places s (right_side effect.1))).p ≤ get_or t.places effect.0 0) a.nums
 
-  meets_inside : (s next : StateValue) (a : Ground) → Contains t.places b s → Leads t.places s a next → meets t.places b a ≡ true → HasFewPlaces s a → Contains t.places b next
+module _ (t : TaskValue) (b : StateBox) where
+
+  pub closed_at : (actions : List Ground) (number : ℕ) (a : Ground) → list_all (λ a. not (is_unmet t.places b a)) actions ≡ true → slice_get actions number ≡ Some a → not (is_unmet t.places b a) ≡ true
+  closed_at [] number a h e = cc
+  closed_at (c ∷ cs) zero a h e = subst (λ (g : Ground). not (is_unmet t.places b g) ≡ true) (some_same c a e) (and_parts (not (is_unmet t.places b c)) _ h).0
+  closed_at (c ∷ cs) (suc number) a h e = closed_at cs number a (and_parts (not (is_unmet t.places b c)) _ h).1 e
+
+  pub met_where_it_may : (a : Ground) → not (is_unmet t.places b a) ≡ true → may_hold t.places b a.pre ≡ true → meets t.places b a ≡ true
+  met_where_it_may a h k = not_not (meets t.places b a) (subst (λ (v : Bool). not (v && not (meets t.places b a)) ≡ true) k h)
+    where
+      not_not : (v : Bool) → not (true && not v) ≡ true → v ≡ true
+      not_not true e = refl
+      not_not false e = cc
+
+module _ (t : TaskValue) (b : StateBox) (a_box : IsBoxOf t b) where
+
+  meets_inside : (s next : StateValue) (a : Ground) → Contains t.places b s → Leads t.places s a next → meets t.places b a ≡ true → HasFewPlaces t s a → Contains t.places b next
   meets_inside s next a inside leads h few =
       let first = and_parts (list_all (λ f. may_be (fact_in b f) true) a.adds && list_all (λ f. list_any (λ g. g == f) a.adds || may_be (fact_in b f) false) a.dels) _ h in
       let second = and_parts (list_all (λ f. may_be (fact_in b f) true) a.adds) _ first.0 in
@@ -305,38 +325,26 @@ module _ (t : TaskValue) (b : StateBox) where
             (member_passes (λ f. list_any (λ g. g == f) a.adds || may_be (fact_in b f) false) f a.dels second.1 deleted)));
         fluents = λ x k.
             subst (λ (m : ℤ). has (fluent_in b x) (at_places (get_or t.places x 0) m) ≡ true) (sym (leads.values x (subst (λ (n : ℕ). x < n) (sym inside.as_many_values) k)))
-            (changes_inside t.places b s inside a.pre leads.applies x a.nums few first.1);
+            (changes_inside t.places b s inside (all_fit t b a_box) a.pre leads.applies x a.nums few first.1);
       }
 
-  pub closed_at : (actions : List Ground) (number : ℕ) (a : Ground) → list_all (λ a. not (is_unmet t.places b a)) actions ≡ true → slice_get actions number ≡ Some a → not (is_unmet t.places b a) ≡ true
-  closed_at [] number a h e = cc
-  closed_at (c ∷ cs) zero a h e = subst (λ (g : Ground). not (is_unmet t.places b g) ≡ true) (some_same c a e) (and_parts (not (is_unmet t.places b c)) _ h).0
-  closed_at (c ∷ cs) (suc number) a h e = closed_at cs number a (and_parts (not (is_unmet t.places b c)) _ h).1 e
-
-  pub met_where_it_may : (a : Ground) → not (is_unmet t.places b a) ≡ true → may_hold b a.pre ≡ true → meets t.places b a ≡ true
-  met_where_it_may a h k = not_not (meets t.places b a) (subst (λ (v : Bool). not (v && not (meets t.places b a)) ≡ true) k h)
-    where
-      not_not : (v : Bool) → not (true && not v) ≡ true → v ≡ true
-      not_not true e = refl
-      not_not false e = cc
-
-  pub step_inside : (closed : is_closed t b ≡ true) (s next : StateValue) (number : ℕ) → ((a : Ground) → slice_get t.raw.actions number ≡ Some a → HasFewPlaces s a) →
+  pub step_inside : (closed : is_closed t b ≡ true) (s next : StateValue) (number : ℕ) → ((a : Ground) → slice_get t.raw.actions number ≡ Some a → HasFewPlaces t s a) →
       Contains t.places b s → StepLeads t number s next → Contains t.places b next
   step_inside closed s next number few inside (a, at, leads) =
       meets_inside s next a inside leads
-      (met_where_it_may a (closed_at t.raw.actions number a closed at) (holds_sound t.places b s inside a.pre leads.applies)) (few a at)
+      (met_where_it_may t b a (closed_at t b t.raw.actions number a closed at) (holds_sound t.places b s inside (all_fit t b a_box) a.pre leads.applies)) (few a at)
 
-  pub plan_inside : (closed : is_closed t b ≡ true) → ((s : StateValue) (number : ℕ) (a : Ground) → slice_get t.raw.actions number ≡ Some a → HasFewPlaces s a) →
+  pub plan_inside : (closed : is_closed t b ≡ true) → ((s : StateValue) (number : ℕ) (a : Ground) → slice_get t.raw.actions number ≡ Some a → HasFewPlaces t s a) →
       (numbers : List ℕ) (s last : StateValue) → Contains t.places b s → PlanLeads t numbers s last → Contains t.places b last
   plan_inside closed few [] s last inside e = subst (λ (r : StateValue). Contains t.places b r) e inside
   plan_inside closed few (number ∷ numbers) s last inside (next, step, rest) =
       plan_inside closed few numbers next last (step_inside closed s next number (few s number) inside step) rest
 
-  pub no_plan : (dead : IsDead t b) → ((s : StateValue) (number : ℕ) (a : Ground) → slice_get t.raw.actions number ≡ Some a → HasFewPlaces s a) →
+  pub no_plan : (dead : IsDead t b) → ((s : StateValue) (number : ℕ) (a : Ground) → slice_get t.raw.actions number ≡ Some a → HasFewPlaces t s a) →
       (numbers : List ℕ) (s : StateValue) → Contains t.places b s → IsPlanFrom t s numbers → ⊥
   no_plan dead few numbers s inside (last, leads, reached) =
-      both_ways (may_hold b t.raw.goal) dead.misses_goal
-      (holds_sound t.places b last (plan_inside dead.closed few numbers s last inside leads) t.raw.goal reached)
+      both_ways (may_hold t.places b t.raw.goal) dead.misses_goal
+      (holds_sound t.places b last (plan_inside dead.closed few numbers s last inside leads) (all_fit t b a_box) t.raw.goal reached)
 
 -- ---- plain tasks
 
@@ -352,13 +360,13 @@ plain_places places s e h =
     ] in
     ap (λ (d : Decimal). d.p) (fold_out-GExpr Decimal (value_layer places s) e) ∙ at (out-GExpr e) (sym (fold_out-GExpr Bool plain_constant_layer e) ∙ h)
 
-found : {X : Type 0} (P : X → Type 0) (xs : List X) (n : ℕ) (x : X) → All P xs → slice_get xs n ≡ Some x → P x
+pub found : {X : Type 0} (P : X → Type 0) (xs : List X) (n : ℕ) (x : X) → All P xs → slice_get xs n ≡ Some x → P x
 found P [] n x all e = cc
 found P (y ∷ ys) zero x all e = subst P (some_same y x e) (All-head P y ys all)
 found P (y ∷ ys) (suc n) x all e = found P ys n x (All-tail P y ys all) e
 
-pub plain_few : (t : TaskValue) (b : StateBox) → IsPlain t.raw t.places → (s : StateValue) (number : ℕ) (a : Ground) → slice_get t.raw.actions number ≡ Some a → HasFewPlaces t b s a
-plain_few t b plain s number a e k d h =
+pub plain_few : (t : TaskValue) → IsPlain t.raw t.places → (s : StateValue) (number : ℕ) (a : Ground) → slice_get t.raw.actions number ≡ Some a → HasFewPlaces t s a
+plain_few t plain s number a e k d h =
     let constant = (found IsPlainAction t.raw.actions number a plain.plain_actions e).plain_changes k d h in
     let none = plain_places t.places s (right_side (get_or a.nums k d).1) constant in
     omega (arith, trimmed_places (value_of t.places s (right_side (get_or a.nums k d).1)))

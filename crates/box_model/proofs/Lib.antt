@@ -1,4 +1,5 @@
 pub mod EndOrder
+pub mod ReadLemmas
 pub mod Soundness
 pub mod Monotony
 pub mod Numbers

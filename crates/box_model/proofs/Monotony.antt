@@ -1,5 +1,5 @@
 -- What may hold in a box may hold in each box around it.
-use Rattle.std.proofs.Common.{◌≡◌, ℕ, ◌≤◌, Bool, true, List, [], ◌∷◌, length, map, sym, refl, ap₂, ◌∙◌, subst, inl, inr}
+use Rattle.std.proofs.Common.{◌≡◌, ℕ, ◌≤◌, Bool, true, List, [], ◌∷◌, length, get_or, map, sym, refl, ap₂, ◌∙◌, subst, inl, inr}
 use Rattle.std.specs.List.{list_all, list_any}
 use Rattle.std.proofs.lemmas.Bool.{and_parts, and_from, or_cases, or_left, or_right, cases_lt}
 use Rattle.std.proofs.lemmas.List.{get_or_past}
@@ -16,6 +16,7 @@ use Rattle.box_model.specs.declared.state_box.May.{May}
 use Rattle.box_model.specs.declared.state_box.May.TheVariants.{True, False, Any}
 use Rattle.box_model.specs.declared.state_box.StateBox.{StateBox}
 use Rattle.num_ends.proofs.DecimalOrder.{most_refl}
+use Rattle.box_model.proofs.ReadLemmas.{AllFit, read_wider, fits_anywhere}
 use Rattle.box_model.proofs.EndOrder.{below_lower, below_upper, inhabited_lower, inhabited_upper}
 
 -- ---- intervals
@@ -66,47 +67,50 @@ module _ (b c : StateBox) (within : LiesWithin b c) where
         | inr h ↦ rw (get_or_past b.fluents x whole_line h, get_or_past c.fluents x whole_line (subst (λ (n : ℕ). n ≤ x) within.as_many_fluents h)) refl
       ]
 
-  layer_wider : (o : GExpr-F GExpr) → is_within (interval_layer b (map-GExpr GExpr Interval (interval_of b) o)) (interval_layer c (map-GExpr GExpr Interval (interval_of c) o)) ≡ true
+module _ (places : List ℕ) (b c : StateBox) (within : LiesWithin b c) (fits : AllFit places b) (fits' : AllFit places c) where
+
+  layer_wider : (o : GExpr-F GExpr) → is_within (interval_layer places b (map-GExpr GExpr Interval (interval_of places b) o)) (interval_layer places c (map-GExpr GExpr Interval (interval_of places c) o)) ≡ true
   layer_wider (expr.Const d) = and_from _ _ (most_refl d) (most_refl d)
-  layer_wider (expr.Read x) = fluent_wider x
+  layer_wider (expr.Read x) =
+      read_wider (get_or places x 0) (fluent_in b x) (fluent_in c x) (fits_anywhere places b fits x) (fits_anywhere places c fits' x) (fluent_wider b c within x)
   layer_wider (expr.Add p q) = refl
   layer_wider (expr.Sub p q) = refl
   layer_wider (expr.Mul p q) = refl
 
-  pub interval_wider : (e : GExpr) → is_within (interval_of b e) (interval_of c e) ≡ true
+  pub interval_wider : (e : GExpr) → is_within (interval_of places b e) (interval_of places c e) ≡ true
   interval_wider e =
-      ap₂ is_within (fold_out-GExpr Interval (interval_layer b) e) (fold_out-GExpr Interval (interval_layer c) e) ∙ layer_wider (out-GExpr e)
+      ap₂ is_within (fold_out-GExpr Interval (interval_layer places b) e) (fold_out-GExpr Interval (interval_layer places c) e) ∙ layer_wider (out-GExpr e)
 
   abbrev IsMonotone : GCond → Type 0
-  IsMonotone g = may_hold b g ≡ true → may_hold c g ≡ true
+  IsMonotone g = may_hold places b g ≡ true → may_hold places c g ≡ true
 
-  all_wider : (gs : List ((g : GCond) × IsMonotone g)) → list_all (λ v. v) (map (may_hold b) (map (λ e. e.0) gs)) ≡ true → list_all (λ v. v) (map (may_hold c) (map (λ e. e.0) gs)) ≡ true
+  all_wider : (gs : List ((g : GCond) × IsMonotone g)) → list_all (λ v. v) (map (may_hold places b) (map (λ e. e.0) gs)) ≡ true → list_all (λ v. v) (map (may_hold places c) (map (λ e. e.0) gs)) ≡ true
   all_wider [] h = refl
   all_wider (g ∷ gs) h =
-      let parts = and_parts (may_hold b g.0) _ h in
-      and_from (may_hold c g.0) _ (g.1 parts.0) (all_wider gs parts.1)
+      let parts = and_parts (may_hold places b g.0) _ h in
+      and_from (may_hold places c g.0) _ (g.1 parts.0) (all_wider gs parts.1)
 
-  any_wider : (gs : List ((g : GCond) × IsMonotone g)) → list_any (λ v. v) (map (may_hold b) (map (λ e. e.0) gs)) ≡ true → list_any (λ v. v) (map (may_hold c) (map (λ e. e.0) gs)) ≡ true
+  any_wider : (gs : List ((g : GCond) × IsMonotone g)) → list_any (λ v. v) (map (may_hold places b) (map (λ e. e.0) gs)) ≡ true → list_any (λ v. v) (map (may_hold places c) (map (λ e. e.0) gs)) ≡ true
   any_wider [] h = cc
   any_wider (g ∷ gs) h =
-      elim (or_cases (may_hold b g.0) _ h) [
-        | inl here ↦ or_left (may_hold c g.0) _ (g.1 here)
-        | inr later ↦ or_right (may_hold c g.0) _ (any_wider gs later)
+      elim (or_cases (may_hold places b g.0) _ h) [
+        | inl here ↦ or_left (may_hold places c g.0) _ (g.1 here)
+        | inr later ↦ or_right (may_hold places c g.0) _ (any_wider gs later)
       ]
 
   condition_wider : (y : GCond-F ((g : GCond) × IsMonotone g)) →
-      may_hold_layer b (map-GCond GCond Bool (may_hold b) (map-GCond ((g : GCond) × IsMonotone g) GCond (λ e. e.0) y)) ≡ true →
-      may_hold_layer c (map-GCond GCond Bool (may_hold c) (map-GCond ((g : GCond) × IsMonotone g) GCond (λ e. e.0) y)) ≡ true
+      may_hold_layer places b (map-GCond GCond Bool (may_hold places b) (map-GCond ((g : GCond) × IsMonotone g) GCond (λ e. e.0) y)) ≡ true →
+      may_hold_layer places c (map-GCond GCond Bool (may_hold places c) (map-GCond ((g : GCond) × IsMonotone g) GCond (λ e. e.0) y)) ≡ true
   condition_wider cond.True h = refl
   condition_wider cond.False h = h
-  condition_wider (cond.Fact f truth) h = may_be_wider (fact_in b f) (fact_in c f) truth (fact_wider f) h
+  condition_wider (cond.Fact f truth) h = may_be_wider (fact_in b f) (fact_in c f) truth (fact_wider b c within f) h
   condition_wider (cond.Cmp r e1 e2) h =
-      stand_wider r (interval_of b e1) (interval_of b e2) (interval_of c e1) (interval_of c e2) (interval_wider e1) (interval_wider e2) h
+      stand_wider r (interval_of places b e1) (interval_of places b e2) (interval_of places c e1) (interval_of places c e2) (interval_wider e1) (interval_wider e2) h
   condition_wider (cond.And gs) h = all_wider gs h
   condition_wider (cond.Or gs) h = any_wider gs h
 
-  pub hold_wider : (g : GCond) → may_hold b g ≡ true → may_hold c g ≡ true
+  pub hold_wider : (g : GCond) → may_hold places b g ≡ true → may_hold places c g ≡ true
   hold_wider = ind-GCond IsMonotone (λ x y is h.
-      let at : may_hold_layer b (map-GCond GCond Bool (may_hold b) x) ≡ true = sym (fold-roll-GCond Bool (may_hold_layer b) x) ∙ h in
-      fold-roll-GCond Bool (may_hold_layer c) x
-      ∙ subst (λ (z : GCond-F GCond). may_hold_layer b (map-GCond GCond Bool (may_hold b) z) ≡ true → may_hold_layer c (map-GCond GCond Bool (may_hold c) z) ≡ true) is (condition_wider y) at)
+      let at : may_hold_layer places b (map-GCond GCond Bool (may_hold places b) x) ≡ true = sym (fold-roll-GCond Bool (may_hold_layer places b) x) ∙ h in
+      fold-roll-GCond Bool (may_hold_layer places c) x
+      ∙ subst (λ (z : GCond-F GCond). may_hold_layer places b (map-GCond GCond Bool (may_hold places b) z) ≡ true → may_hold_layer places c (map-GCond GCond Bool (may_hold places c) z) ≡ true) is (condition_wider y) at)

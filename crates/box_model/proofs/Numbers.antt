@@ -151,13 +151,13 @@ more_trimmed a k =
     less_at q k a (omega arith) (omega arith) ∙ ap (λ (m : ℤ). int_lt m (number_at q a)) (sym (trimmed_number q k (omega arith)))
     ∙ sym (less_at q (trimmed k) a (omega arith) (omega arith))
 
-most_trimmed : (a k : Decimal) → is_at_most a k ≡ is_at_most a (trimmed k)
+pub most_trimmed : (a k : Decimal) → is_at_most a k ≡ is_at_most a (trimmed k)
 most_trimmed a k =
     let q = max (max a.p k.p) (trimmed k).p in
     most_at q a k (omega arith) (omega arith) ∙ ap (int_le (number_at q a)) (sym (trimmed_number q k (omega arith)))
     ∙ sym (most_at q a (trimmed k) (omega arith) (omega arith))
 
-least_trimmed : (a k : Decimal) → is_at_most k a ≡ is_at_most (trimmed k) a
+pub least_trimmed : (a k : Decimal) → is_at_most k a ≡ is_at_most (trimmed k) a
 least_trimmed a k =
     let q = max (max a.p k.p) (trimmed k).p in
     most_at q k a (omega arith) (omega arith) ∙ ap (λ (m : ℤ). int_le m (number_at q a)) (sym (trimmed_number q k (omega arith)))

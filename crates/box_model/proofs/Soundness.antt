@@ -18,6 +18,7 @@ use Rattle.box_model.specs.Hold.{interval_layer, interval_of, may_stand, may_hol
 use Rattle.box_model.specs.declared.state_box.May.TheVariants.{Any}
 use Rattle.box_model.specs.declared.state_box.StateBox.{StateBox}
 use Rattle.num_ends.proofs.DecimalOrder.{most_refl, same_is_most, same_back}
+use Rattle.box_model.proofs.ReadLemmas.{AllFit, has_read, fits_anywhere}
 use Rattle.num_ends.proofs.Meetings.{less_met, at_most_met}
 
 -- two members that stand so show that two intervals may
@@ -47,52 +48,54 @@ module _ (places : List ℕ) (b : StateBox) (s : StateValue) (inside : Contains 
         | inr h ↦ rw (get_or_past b.fluents x whole_line h) refl
       ]
 
-  layer_inside : (o : GExpr-F GExpr) → has (interval_layer b (map-GExpr GExpr Interval (interval_of b) o)) (value_layer places s (map-GExpr GExpr Decimal (value_of places s) o)) ≡ true
+module _ (places : List ℕ) (b : StateBox) (s : StateValue) (inside : Contains places b s) (fits : AllFit places b) where
+
+  layer_inside : (o : GExpr-F GExpr) → has (interval_layer places b (map-GExpr GExpr Interval (interval_of places b) o)) (value_layer places s (map-GExpr GExpr Decimal (value_of places s) o)) ≡ true
   layer_inside (expr.Const c) = and_from _ _ (most_refl c) (most_refl c)
-  layer_inside (expr.Read x) = fluent_inside x
+  layer_inside (expr.Read x) = has_read (get_or places x 0) (fluent_in b x) (fluent_value places s x) (fits_anywhere places b fits x) (fluent_inside places b s inside x)
   layer_inside (expr.Add p q) = refl
   layer_inside (expr.Sub p q) = refl
   layer_inside (expr.Mul p q) = refl
 
   -- the value of an expression lies in its interval
-  pub value_inside : (e : GExpr) → has (interval_of b e) (value_of places s e) ≡ true
+  pub value_inside : (e : GExpr) → has (interval_of places b e) (value_of places s e) ≡ true
   value_inside e =
-      ap₂ has (fold_out-GExpr Interval (interval_layer b) e) (fold_out-GExpr Decimal (value_layer places s) e) ∙ layer_inside (out-GExpr e)
+      ap₂ has (fold_out-GExpr Interval (interval_layer places b) e) (fold_out-GExpr Decimal (value_layer places s) e) ∙ layer_inside (out-GExpr e)
 
   abbrev IsSound : GCond → Type 0
-  IsSound c = holds places s c ≡ true → may_hold b c ≡ true
+  IsSound c = holds places s c ≡ true → may_hold places b c ≡ true
 
-  fact_sound : (f : ℕ) (truth : Bool) → holds_layer places s (cond.Fact f truth) ≡ true → may_hold_layer b (cond.Fact f truth) ≡ true
-  fact_sound f true h = subst (λ (v : Bool). may_be (fact_in b f) v ≡ true) h (fact_inside f)
-  fact_sound f false h = subst (λ (v : Bool). may_be (fact_in b f) v ≡ true) (not-true (get_or s.facts f false) h) (fact_inside f)
+  fact_sound : (f : ℕ) (truth : Bool) → holds_layer places s (cond.Fact f truth) ≡ true → may_hold_layer places b (cond.Fact f truth) ≡ true
+  fact_sound f true h = subst (λ (v : Bool). may_be (fact_in b f) v ≡ true) h (fact_inside places b s inside f)
+  fact_sound f false h = subst (λ (v : Bool). may_be (fact_in b f) v ≡ true) (not-true (get_or s.facts f false) h) (fact_inside places b s inside f)
 
-  all_sound : (cs : List ((c : GCond) × IsSound c)) → list_all (λ v. v) (map (holds places s) (map (λ e. e.0) cs)) ≡ true → list_all (λ v. v) (map (may_hold b) (map (λ e. e.0) cs)) ≡ true
+  all_sound : (cs : List ((c : GCond) × IsSound c)) → list_all (λ v. v) (map (holds places s) (map (λ e. e.0) cs)) ≡ true → list_all (λ v. v) (map (may_hold places b) (map (λ e. e.0) cs)) ≡ true
   all_sound [] h = refl
   all_sound (c ∷ cs) h =
       let parts = and_parts (holds places s c.0) _ h in
-      and_from (may_hold b c.0) _ (c.1 parts.0) (all_sound cs parts.1)
+      and_from (may_hold places b c.0) _ (c.1 parts.0) (all_sound cs parts.1)
 
-  any_sound : (cs : List ((c : GCond) × IsSound c)) → list_any (λ v. v) (map (holds places s) (map (λ e. e.0) cs)) ≡ true → list_any (λ v. v) (map (may_hold b) (map (λ e. e.0) cs)) ≡ true
+  any_sound : (cs : List ((c : GCond) × IsSound c)) → list_any (λ v. v) (map (holds places s) (map (λ e. e.0) cs)) ≡ true → list_any (λ v. v) (map (may_hold places b) (map (λ e. e.0) cs)) ≡ true
   any_sound [] h = cc
   any_sound (c ∷ cs) h =
       elim (or_cases (holds places s c.0) _ h) [
-        | inl here ↦ or_left (may_hold b c.0) _ (c.1 here)
-        | inr later ↦ or_right (may_hold b c.0) _ (any_sound cs later)
+        | inl here ↦ or_left (may_hold places b c.0) _ (c.1 here)
+        | inr later ↦ or_right (may_hold places b c.0) _ (any_sound cs later)
       ]
 
   layer_sound : (y : GCond-F ((c : GCond) × IsSound c)) →
       holds_layer places s (map-GCond GCond Bool (holds places s) (map-GCond ((c : GCond) × IsSound c) GCond (λ e. e.0) y)) ≡ true →
-      may_hold_layer b (map-GCond GCond Bool (may_hold b) (map-GCond ((c : GCond) × IsSound c) GCond (λ e. e.0) y)) ≡ true
+      may_hold_layer places b (map-GCond GCond Bool (may_hold places b) (map-GCond ((c : GCond) × IsSound c) GCond (λ e. e.0) y)) ≡ true
   layer_sound cond.True h = refl
   layer_sound cond.False h = h
   layer_sound (cond.Fact f truth) h = fact_sound f truth h
   layer_sound (cond.Cmp r e1 e2) h =
-      members_stand r (interval_of b e1) (interval_of b e2) (value_of places s e1) (value_of places s e2) (value_inside e1) (value_inside e2) h
+      members_stand r (interval_of places b e1) (interval_of places b e2) (value_of places s e1) (value_of places s e2) (value_inside e1) (value_inside e2) h
   layer_sound (cond.And cs) h = all_sound cs h
   layer_sound (cond.Or cs) h = any_sound cs h
 
-  pub holds_sound : (c : GCond) → holds places s c ≡ true → may_hold b c ≡ true
+  pub holds_sound : (c : GCond) → holds places s c ≡ true → may_hold places b c ≡ true
   holds_sound = ind-GCond IsSound (λ x y is h.
       let at : holds_layer places s (map-GCond GCond Bool (holds places s) x) ≡ true = sym (fold-roll-GCond Bool (holds_layer places s) x) ∙ h in
-      fold-roll-GCond Bool (may_hold_layer b) x
-      ∙ subst (λ (z : GCond-F GCond). holds_layer places s (map-GCond GCond Bool (holds places s) z) ≡ true → may_hold_layer b (map-GCond GCond Bool (may_hold b) z) ≡ true) is (layer_sound y) at)
+      fold-roll-GCond Bool (may_hold_layer places b) x
+      ∙ subst (λ (z : GCond-F GCond). holds_layer places s (map-GCond GCond Bool (holds places s) z) ≡ true → may_hold_layer places b (map-GCond GCond Bool (may_hold places b) z) ≡ true) is (layer_sound y) at)

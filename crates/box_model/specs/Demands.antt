@@ -16,7 +16,7 @@ use Rattle.ground_task.specs.declared.raw.Change.TheVariants.{Add, Set}
 use Rattle.ground_task.specs.declared.raw.Ground.{Ground}
 use Rattle.ground_task.specs.Tasks.{TaskValue}
 use Rattle.box_model.specs.Boxes.{fact_in, fluent_in, may_be}
-use Rattle.box_model.specs.Hold.{may_hold, interval_of}
+use Rattle.box_model.specs.Hold.{may_hold, interval_of, read_interval}
 use Rattle.box_model.specs.declared.caps.Side.{Side}
 use Rattle.box_model.specs.declared.caps.Side.TheVariants.{Upper, Lower}
 use Rattle.box_model.specs.declared.state_box.StateBox.{StateBox}
@@ -159,16 +159,17 @@ meets_growth (Some cap) i by = covers cap.0 (end_on cap.0 i) cap.1
 meets_growth None i by =
     implies (may_less (point_of origin) by) (is_infinite i.1) && implies (may_less by (point_of origin)) (is_infinite i.0)
 
--- An assigned constant lies in the interval. Another assigned value sends an end to infinity where
--- it may lie past the fluent's own.
-abbrev pub meets_value : Option Decimal → Interval → Interval → Bool
-meets_value (Some c) i to = has i c
-meets_value None i to =
-    implies (may_less i to) (is_infinite i.1) && implies (may_less to i) (is_infinite i.0)
+-- An assigned constant lies in the interval of the fluent, which has q places. Another assigned
+-- value sends an end to infinity where it may lie past the fluent's own.
+abbrev pub meets_value : Option Decimal → ℕ → Interval → Interval → Bool
+meets_value (Some c) q i to = has i c
+meets_value None q i to =
+    implies (may_less (read_interval q i) to) (is_infinite i.1) && implies (may_less to (read_interval q i)) (is_infinite i.0)
 
 abbrev pub meets_change : List ℕ → StateBox → GCond → ℕ → Change → Bool
-meets_change places b pre x (Add e) = meets_growth (cap_of places pre x e) (fluent_in b x) (interval_of b e)
-meets_change places b pre x (Set e) = meets_value (constant_of e) (fluent_in b x) (interval_of b e)
+meets_change places b pre x (Add e) = meets_growth (cap_of places pre x e) (fluent_in b x) (interval_of places b e)
+meets_change places b pre x (Set e) =
+    meets_value (constant_of e) (slice_index_or places x 0) (fluent_in b x) (interval_of places b e)
 
 -- the box meets each demand of an action
 abbrev pub meets : List ℕ → StateBox → Ground → Bool
@@ -179,7 +180,7 @@ meets places b a =
 
 -- an action whose precondition may hold, with a demand that the box doesn't meet
 abbrev pub is_unmet : List ℕ → StateBox → Ground → Bool
-is_unmet places b a = may_hold b a.pre && not (meets places b a)
+is_unmet places b a = may_hold places b a.pre && not (meets places b a)
 
 -- every demand of every action whose precondition may hold is met
 abbrev pub is_closed : TaskValue → StateBox → Bool

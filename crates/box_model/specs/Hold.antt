@@ -1,6 +1,10 @@
 -- Which conditions may hold in a box (interval relaxation, Scala et al. 2016).
-use Rattle.std.specs.Prelude.{Bool, true, false}
+use Rattle.std.specs.Prelude.{ℕ, List, Bool, true, false, slice_index_or}
 use Rattle.std.specs.List.{list_all, list_any}
+use Rattle.num_ends.specs.Decimal.{trimmed}
+use Rattle.num_ends.specs.Arithmetic.{outward_of}
+use Rattle.num_ends.specs.declared.ends.End.{End}
+use Rattle.num_ends.specs.declared.ends.End.TheVariants.{NegInf, Excl, Incl, PosInf}
 use Rattle.num_ends.specs.Ends.{Interval, point_of, whole_line, may_less, may_less_equal, may_equal}
 use Rattle.ground_task.specs.declared.raw.Rel.{Rel}
 use Rattle.ground_task.specs.declared.raw.Rel.TheVariants.{Less, LessEqual, Equal, GreaterEqual, Greater}
@@ -11,17 +15,29 @@ use Rattle.ground_task.specs.declared.raw.GCond.TheOpen as cond
 use Rattle.box_model.specs.Boxes.{fact_in, fluent_in, may_be}
 use Rattle.box_model.specs.declared.state_box.StateBox.{StateBox}
 
--- The interval of a plain operand: of a constant its point, of a read the box's. An operation is
--- no plain operand; it is taken for any value, which leaves nothing out.
-abbrev pub interval_layer : StateBox → GExpr-F Interval → Interval
-interval_layer b (expr.Const c) = point_of c
-interval_layer b (expr.Read x) = fluent_in b x
-interval_layer b (expr.Add i j) = whole_line
-interval_layer b (expr.Sub i j) = whole_line
-interval_layer b (expr.Mul i j) = whole_line
+-- an end of the same value, with the fewest places
+abbrev pub trimmed_end : End → End
+trimmed_end NegInf = NegInf
+trimmed_end (Excl d) = Excl (trimmed d)
+trimmed_end (Incl d) = Incl (trimmed d)
+trimmed_end PosInf = PosInf
 
-abbrev pub interval_of : StateBox → GExpr → Interval
-interval_of b = fold-GExpr Interval (interval_layer b)
+-- the interval of a fluent as expressions have it: its ends are brought to the fluent's places, and
+-- move outward into the range there
+abbrev pub read_interval : ℕ → Interval → Interval
+read_interval q i = outward_of q (trimmed_end i.0, trimmed_end i.1)
+
+-- The interval of a plain operand: of a constant its point, of a read the box's, moved outward. An
+-- operation is no plain operand; it is taken for any value, which leaves nothing out.
+abbrev pub interval_layer : List ℕ → StateBox → GExpr-F Interval → Interval
+interval_layer places b (expr.Const c) = point_of c
+interval_layer places b (expr.Read x) = read_interval (slice_index_or places x 0) (fluent_in b x)
+interval_layer places b (expr.Add i j) = whole_line
+interval_layer places b (expr.Sub i j) = whole_line
+interval_layer places b (expr.Mul i j) = whole_line
+
+abbrev pub interval_of : List ℕ → StateBox → GExpr → Interval
+interval_of places b = fold-GExpr Interval (interval_layer places b)
 
 -- some value of the first interval and some value of the second stand so
 abbrev pub may_stand : Rel → Interval → Interval → Bool
@@ -31,14 +47,14 @@ may_stand Equal i j = may_equal i j
 may_stand GreaterEqual i j = may_less_equal j i
 may_stand Greater i j = may_less j i
 
-abbrev pub may_hold_layer : StateBox → GCond-F Bool → Bool
-may_hold_layer b cond.True = true
-may_hold_layer b cond.False = false
-may_hold_layer b (cond.Fact f truth) = may_be (fact_in b f) truth
-may_hold_layer b (cond.Cmp r e1 e2) = may_stand r (interval_of b e1) (interval_of b e2)
-may_hold_layer b (cond.And cs) = list_all (λ c. c) cs
-may_hold_layer b (cond.Or cs) = list_any (λ c. c) cs
+abbrev pub may_hold_layer : List ℕ → StateBox → GCond-F Bool → Bool
+may_hold_layer places b cond.True = true
+may_hold_layer places b cond.False = false
+may_hold_layer places b (cond.Fact f truth) = may_be (fact_in b f) truth
+may_hold_layer places b (cond.Cmp r e1 e2) = may_stand r (interval_of places b e1) (interval_of places b e2)
+may_hold_layer places b (cond.And cs) = list_all (λ c. c) cs
+may_hold_layer places b (cond.Or cs) = list_any (λ c. c) cs
 
 -- a condition may hold in a box
-abbrev pub may_hold : StateBox → GCond → Bool
-may_hold b = fold-GCond Bool (may_hold_layer b)
+abbrev pub may_hold : List ℕ → StateBox → GCond → Bool
+may_hold places b = fold-GCond Bool (may_hold_layer places b)

@@ -18,4 +18,4 @@ pub record IsLeastClosed (t : TaskValue) (s : StateValue) (b : StateBox) : Type 
 pub record IsDead (t : TaskValue) (b : StateBox) : Type 0 where
   pub a_box : IsBoxOf t b
   pub closed : IsTrue (is_closed t b)
-  pub misses_goal : may_hold b t.raw.goal ≡ false
+  pub misses_goal : may_hold t.places b t.raw.goal ≡ false

@@ -3,7 +3,7 @@
 ghost use Rattle.std.specs.Prelude.{◌≡◌, IsTrue, length, not};
 ghost use Rattle.std.specs.List.{list_all, list_any};
 ghost use Rattle.ground_task.specs.Plain.{is_plain_condition};
-ghost use Rattle.ground_task.specs.Valid.{is_known_condition};
+ghost use Rattle.ground_task.specs.Valid.{is_known_condition, is_known_expression};
 ghost use Rattle.box_model.specs.Boxes.{fact_in, fluent_in, may_be, IsBoxOf};
 ghost use Rattle.box_model.specs.Hold.{interval_of, may_hold, may_stand};
 
@@ -59,38 +59,44 @@ impl StateBox {
     }
 
     /// The interval of a constant or a fluent; any value for an operation.
-    pub(crate) fn interval_of(&self, expr: &GExpr) -> Interval
-        ensures { result ≡ interval_of self.now expr.now }
+    pub(crate) fn interval_of(&self, task: &Task, expr: &GExpr) -> Interval
+        requires a_box { IsBoxOf task.now self.now }
+        requires known { IsTrue (is_known_expression (length task.now.raw.fluents) expr.now) }
+        ensures { result ≡ interval_of task.now.places self.now expr.now }
     {
         match expr {
             GExpr::Const(c) => Interval::point(*c),
-            GExpr::Read(x) => self.fluent(*x),
+            GExpr::Read(x) => self.read(task, *x),
             GExpr::Add(_, _) | GExpr::Sub(_, _) | GExpr::Mul(_, _) => Interval::whole(),
         }
     }
 
     #[cycle(hold)]
-    pub(crate) fn admits(&self, cond: &GCond) -> bool
-        ensures { result ≡ may_hold self.now cond.now }
+    pub(crate) fn admits(&self, task: &Task, cond: &GCond) -> bool
+        requires a_box { IsBoxOf task.now self.now }
+        requires known { IsTrue (is_known_condition (length task.now.raw.facts) (length task.now.raw.fluents) cond.now) }
+        ensures { result ≡ may_hold task.now.places self.now cond.now }
     {
         match cond {
             GCond::True => true,
             GCond::False => false,
             GCond::Fact(fact, truth) => self.fact(*fact).may_be(*truth),
             GCond::Cmp(rel, left, right) => {
-                may_stand(*rel, self.interval_of(left), self.interval_of(right))
+                may_stand(*rel, self.interval_of(task, left), self.interval_of(task, right))
             }
-            GCond::And(conds) => self.admits_all(conds.as_slice()),
-            GCond::Or(conds) => self.admits_some(conds.as_slice()),
+            GCond::And(conds) => self.admits_all(task, conds.as_slice()),
+            GCond::Or(conds) => self.admits_some(task, conds.as_slice()),
         }
     }
 
     #[cycle(hold)]
-    fn admits_all(&self, conds: &[GCond]) -> bool
-        ensures { result ≡ list_all (may_hold self.now) conds.now }
+    fn admits_all(&self, task: &Task, conds: &[GCond]) -> bool
+        requires a_box { IsBoxOf task.now self.now }
+        requires known { IsTrue (list_all (is_known_condition (length task.now.raw.facts) (length task.now.raw.fluents)) conds.now) }
+        ensures { result ≡ list_all (may_hold task.now.places self.now) conds.now }
     {
         'each: for cond in conds {
-            if !self.admits(cond) {
+            if !self.admits(task, cond) {
                 return false;
             }
         }
@@ -98,11 +104,13 @@ impl StateBox {
     }
 
     #[cycle(hold)]
-    fn admits_some(&self, conds: &[GCond]) -> bool
-        ensures { result ≡ list_any (may_hold self.now) conds.now }
+    fn admits_some(&self, task: &Task, conds: &[GCond]) -> bool
+        requires a_box { IsBoxOf task.now self.now }
+        requires known { IsTrue (list_all (is_known_condition (length task.now.raw.facts) (length task.now.raw.fluents)) conds.now) }
+        ensures { result ≡ list_any (may_hold task.now.places self.now) conds.now }
     {
         'each: for cond in conds {
-            if self.admits(cond) {
+            if self.admits(task, cond) {
                 return true;
             }
         }
@@ -113,19 +121,19 @@ impl StateBox {
     ///
     /// Each comparison is between fluents and constants.
     pub fn may_hold(&self, task: &Task, cond: &GCond) -> bool
-        requires of_task { IsBoxOf task.now self.now }
+        requires a_box { IsBoxOf task.now self.now }
         requires known { IsTrue (is_known_condition (length task.now.raw.facts) (length task.now.raw.fluents) cond.now) }
         requires plain { IsTrue (is_plain_condition cond.now) }
-        ensures { result ≡ may_hold self.now cond.now }
+        ensures { result ≡ may_hold task.now.places self.now cond.now }
     {
-        self.admits(cond)
+        self.admits(task, cond)
     }
 
     /// Whether the goal may not hold in this box.
     pub fn misses_goal(&self, task: &Task) -> bool
-        requires of_task { IsBoxOf task.now self.now }
-        ensures { result ≡ not (may_hold self.now task.now.raw.goal) }
+        requires a_box { IsBoxOf task.now self.now }
+        ensures { result ≡ not (may_hold task.now.places self.now task.now.raw.goal) }
     {
-        !self.admits(&task.raw().goal)
+        !self.admits(task, &task.raw().goal)
     }
 }

@@ -9,34 +9,36 @@ ghost use Rattle.ground_task.specs.States.{StateValue};
 ghost use Rattle.ground_task.specs.Steps.{StepLeads, PlanLeads, IsPlanFrom};
 ghost use Rattle.ground_task.specs.Tasks.{TaskValue};
 ghost use Rattle.box_model.specs.declared.state_box.StateBox.{StateBox};
-ghost use Rattle.box_model.specs.Boxes.{Contains, LiesWithin};
+ghost use Rattle.box_model.specs.Boxes.{Contains, IsBoxOf, LiesWithin};
 ghost use Rattle.box_model.specs.Demands.{is_closed};
 ghost use Rattle.box_model.specs.Hold.{may_hold};
-ghost use Rattle.box_model.specs.Least.{IsDead};
+ghost use Rattle.box_model.specs.Least.{IsDead, IsLeastClosed};
 
 /// A condition that holds in a state of a box may hold in the box.
 pub fn held_conditions_may_hold()
-    ensures { (places : List ℕ) (b : StateBox) (s : StateValue) (c : GCond)
-        → Contains places b s → IsTrue (holds places s c) → IsTrue (may_hold b c) }
+    ensures { (t : TaskValue) (b : StateBox) (s : StateValue) (c : GCond)
+        → IsBoxOf t b → Contains t.places b s
+        → IsTrue (holds t.places s c) → IsTrue (may_hold t.places b c) }
 {}
 
 /// What may hold in a box may hold in each box around it.
 pub fn wider_boxes_hold_more()
-    ensures { (b c : StateBox) (g : GCond)
-        → LiesWithin b c → IsTrue (may_hold b g) → IsTrue (may_hold c g) }
+    ensures { (t : TaskValue) (b c : StateBox) (g : GCond)
+        → IsBoxOf t b → IsBoxOf t c → LiesWithin b c
+        → IsTrue (may_hold t.places b g) → IsTrue (may_hold t.places c g) }
 {}
 
 /// A step from a state in a closed box leads into the box.
 pub fn steps_stay_in_closed_boxes()
     ensures { (t : TaskValue) (b : StateBox) (s next : StateValue) (number : ℕ)
-        → IsPlain t.raw t.places → IsTrue (is_closed t b) → Contains t.places b s
+        → IsPlain t.raw t.places → IsBoxOf t b → IsTrue (is_closed t b) → Contains t.places b s
         → StepLeads t number s next → Contains t.places b next }
 {}
 
 /// A list of actions from a state in a closed box leads into the box.
 pub fn plans_stay_in_closed_boxes()
     ensures { (t : TaskValue) (b : StateBox) (s last : StateValue) (numbers : List ℕ)
-        → IsPlain t.raw t.places → IsTrue (is_closed t b) → Contains t.places b s
+        → IsPlain t.raw t.places → IsBoxOf t b → IsTrue (is_closed t b) → Contains t.places b s
         → PlanLeads t numbers s last → Contains t.places b last }
 {}
 
@@ -45,4 +47,10 @@ pub fn dead_boxes_have_no_plan()
     ensures { (t : TaskValue) (b : StateBox) (s : StateValue) (numbers : List ℕ)
         → IsPlain t.raw t.places → IsDead t b → Contains t.places b s
         → IsPlanFrom t s numbers → ⊥ }
+{}
+
+/// The least closed box above a state is dead where some dead box contains the state.
+pub fn least_boxes_in_dead_ones_are_dead()
+    ensures { (t : TaskValue) (b c : StateBox) (s : StateValue)
+        → IsLeastClosed t s b → IsDead t c → Contains t.places c s → IsDead t b }
 {}

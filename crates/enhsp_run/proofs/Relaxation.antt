@@ -20,7 +20,7 @@ relaxed_box t b plain least = record {
   least = least;
   no_plan = λ misses numbers plan.
       let dead : IsDead t b = record { a_box = least.a_box; closed = least.closed; misses_goal = misses } in
-      no_plan t b dead (plain_few t b plain) numbers (first_state t.raw t.places) least.contains plan;
+      no_plan t b dead.a_box dead (plain_few t plain) numbers (first_state t.raw t.places) least.contains plan;
 }
 
 -- a front that isn't longer than the limit is the whole

@@ -20,7 +20,7 @@ most_bytes = 1048576
 
 -- the goal may hold in the box
 abbrev pub is_met : TaskValue → StateBox → Bool
-is_met t b = may_hold b t.raw.goal
+is_met t b = may_hold t.places b t.raw.goal
 
 abbrev pub text_of : Answer → List ℕ
 text_of (Relaxed t b) = (if is_met t b then codes "MET\n" else codes "MISSED\n") ++ box_line t.raw b

@@ -5,6 +5,7 @@ mod copies;
 mod facts;
 mod faults;
 mod first;
+pub mod laws;
 mod raw;
 mod state;
 mod task;

@@ -1,9 +1,7 @@
 //! The states of a task.
 
-ghost use Rattle.std.specs.Prelude.{◌≡◌, ◌<◌, false, true, length, pos, slice_index_or, All, IfOk};
+ghost use Rattle.std.specs.Prelude.{◌≡◌, ◌<◌, false, length, pos, slice_index_or, All, IfOk};
 ghost use Rattle.num_ends.specs.Decimal.{InRange};
-ghost use Rattle.ground_task.specs.Orders.{is_same_state, state_cmp};
-ghost use Rattle.ground_task.specs.States.{StateValue};
 
 use crate::facts::Facts;
 use num_ends::{List, NoMemory};
@@ -72,11 +70,3 @@ impl State {
         })
     }
 }
-
-/// The equality and the order of states, and that equal states are one.
-pub fn state_laws()
-    ensures equality { (x y : StateValue) → ⟦<State as Eq>⟧.eq x y ≡ is_same_state x y }
-    ensures same { (x y : StateValue) → is_same_state x y ≡ true → x ≡ y }
-    ensures itself { (x : StateValue) → is_same_state x x ≡ true }
-    ensures order { (x y : StateValue) → ⟦<State as Ord>⟧.cmp x y ≡ state_cmp x y }
-{}

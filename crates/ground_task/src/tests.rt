@@ -174,3 +174,17 @@ fn states_in_order(rt: HostRuntime) -> Result<(), Fail> {
     }
     Ok(())
 }
+
+fn is_shared<T: Sync>(_item: &T) {}
+
+fn is_moved<T: Send + Drop>(_item: T) {}
+
+// Threads may share tasks and states, and states may move to another thread.
+fn task_on_threads(task: &Task) {
+    is_shared(task);
+}
+
+fn state_on_threads(state: State) {
+    is_shared(&state);
+    is_moved(state);
+}

@@ -47,17 +47,17 @@ plain_constant e h =
     ] in
     at (out-GExpr e) (sym (fold_out-GExpr Bool plain_constant_layer e) ∙ h)
 
-constant_interval : (b : StateBox) (e : GExpr) (c : Decimal) → constant_of e ≡ Some c → interval_of b e ≡ point_of c
-constant_interval b e c h =
-    let at : (o : GExpr-F GExpr) → constant_layer o ≡ Some c → interval_layer b (map-GExpr GExpr Interval (interval_of b) o) ≡ point_of c =
-    λ (o : GExpr-F GExpr). elim o as (λ o. constant_layer o ≡ Some c → interval_layer b (map-GExpr GExpr Interval (interval_of b) o) ≡ point_of c) [
+constant_interval : (places : List ℕ) (b : StateBox) (e : GExpr) (c : Decimal) → constant_of e ≡ Some c → interval_of places b e ≡ point_of c
+constant_interval places b e c h =
+    let at : (o : GExpr-F GExpr) → constant_layer o ≡ Some c → interval_layer places b (map-GExpr GExpr Interval (interval_of places b) o) ≡ point_of c =
+    λ (o : GExpr-F GExpr). elim o as (λ o. constant_layer o ≡ Some c → interval_layer places b (map-GExpr GExpr Interval (interval_of places b) o) ≡ point_of c) [
       | expr.Const d ↦ λ k. ap point_of (some_same d c k)
       | expr.Read x ↦ λ (k : None ≡ Some c). cc
       | expr.Add p q ↦ λ (k : None ≡ Some c). cc
       | expr.Sub p q ↦ λ (k : None ≡ Some c). cc
       | expr.Mul p q ↦ λ (k : None ≡ Some c). cc
     ] in
-    fold_out-GExpr Interval (interval_layer b) e ∙ at (out-GExpr e) h
+    fold_out-GExpr Interval (interval_layer places b) e ∙ at (out-GExpr e) h
 
 -- ---- growths
 
@@ -116,7 +116,7 @@ pub constant_demand : (t : TaskValue) (b : StateBox) (pre : GCond) (x : ℕ) (ch
     is_inhabited (fluent_in b x).0 (fluent_in b x).1 ≡ true → meets_change t.places b pre x change ≡ meets_constant change c (cap_end t.places pre x change) (fluent_in b x)
 constant_demand t b pre x (Add e) c h some =
     let q = get_or t.places x 0 in
-    rw (h, constant_interval b e c h) (capped_growth q x c pre (side_of c) (fluent_in b x) some refl)
+    rw (h, constant_interval t.places b e c h) (capped_growth q x c pre (side_of c) (fluent_in b x) some refl)
 constant_demand t b pre x (Set e) c h some = rw h refl
 
 -- ---- what is met stays met

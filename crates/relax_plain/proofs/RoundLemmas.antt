@@ -18,17 +18,13 @@ use Rattle.box_model.specs.Hold.{may_hold}
 use Rattle.box_model.specs.Least.{IsLeastClosed}
 use Rattle.box_model.specs.declared.state_box.StateBox.{StateBox}
 use Rattle.box_model.proofs.CapLemmas.{some_same}
-use Rattle.box_model.proofs.Closed.{closed_at, met_where_it_may}
+use Rattle.box_model.proofs.Closed.{closed_at, found, met_where_it_may}
+use Rattle.box_model.proofs.ReadLemmas.{all_fit}
 use Rattle.box_model.proofs.Monotony.{hold_wider, may_be_wider}
 use Rattle.relax_plain.specs.Rounds.{unmarked, AreMet, AreQuiet, IsGrown}
 use Rattle.relax_plain.specs.Widening.{IsLeastBox}
 use Rattle.relax_plain.proofs.BoxLemmas.{box_refl, box_trans}
 use Rattle.relax_plain.proofs.DemandLemmas.{kept_meets}
-
-found : {X : Type 0} (P : X → Type 0) (xs : List X) (n : ℕ) (x : X) → All P xs → slice_get xs n ≡ Some x → P x
-found P [] n x all e = cc
-found P (y ∷ ys) zero x all e = subst P (some_same y x e) (All-head P y ys all)
-found P (y ∷ ys) (suc n) x all e = found P ys n x (All-tail P y ys all) e
 
 pub grown_start : (t : TaskValue) (b : StateBox) → IsBoxOf t b → IsGrown t b b
 grown_start t b a = record { a_box = a; wider = box_refl b; least = λ c i w k. w }
@@ -46,7 +42,7 @@ module _ (t : TaskValue) (valid : IsValid t.raw) (plain : IsPlain t.raw t.places
       (found IsPlainAction t.raw.actions number a plain.plain_actions at)).kept b c a_box wider h
 
   module _ (first b c : StateBox) (marks : List Bool) (number : ℕ) (a : Ground) (at : slice_get t.raw.actions number ≡ Some a) (known : number < length marks)
-      (grown : IsGrown t first b) (met : AreMet t b marks) (may : may_hold b a.pre ≡ true) (step : IsLeastBox t (λ b. meets t.places b a) b c) where
+      (grown : IsGrown t first b) (met : AreMet t b marks) (may : may_hold t.places b a.pre ≡ true) (step : IsLeastBox t (λ b. meets t.places b a) b c) where
     pub applied_grown : IsGrown t first c
     applied_grown =
         record {
@@ -54,7 +50,7 @@ module _ (t : TaskValue) (valid : IsValid t.raw) (plain : IsPlain t.raw t.places
           wider = box_trans first b c grown.wider step.wider;
           least = λ d i w closed.
               let inner = grown.least d i w closed in
-              step.least d i inner (met_where_it_may t d a (closed_at t d t.raw.actions number a closed at) (hold_wider b d inner a.pre may));
+              step.least d i inner (met_where_it_may t d a (closed_at t d t.raw.actions number a closed at) (hold_wider t.places b d inner (all_fit t b grown.a_box) (all_fit t d i) a.pre may));
         }
 
     pub applied_met : AreMet t c (set marks number true)
@@ -90,7 +86,7 @@ pub all_closed : (t : TaskValue) (b : StateBox) (marks : List Bool) → AreMet t
 all_closed t b marks met quiet =
     all_at (λ a. not (is_unmet t.places b a)) t.raw.actions (λ n a at.
     elim (cases_Bool (get_or marks n false)) [
-      | inl mark ↦ rw (met n a at mark) (not_unmet (may_hold b a.pre))
+      | inl mark ↦ rw (met n a at mark) (not_unmet (may_hold t.places b a.pre))
       | inr mark ↦ rw (quiet n a (within_list t.raw.actions n a at) at mark) refl
     ])
   where

@@ -21,7 +21,7 @@ AreMet t b marks =
 -- none of the unmarked actions below this number may be applied in the box
 abbrev pub AreQuiet : TaskValue → StateBox → List Bool → ℕ → Type 0
 AreQuiet t b marks end =
-    (number : ℕ) (a : Ground) → number < end → slice_get t.raw.actions number ≡ Some a → slice_index_or marks number false ≡ false → may_hold b a.pre ≡ false
+    (number : ℕ) (a : Ground) → number < end → slice_get t.raw.actions number ≡ Some a → slice_index_or marks number false ≡ false → may_hold t.places b a.pre ≡ false
 
 -- how many actions are unmarked
 abbrev pub unmarked : List Bool → ℕ

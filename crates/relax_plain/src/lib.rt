@@ -6,3 +6,6 @@ mod rounds;
 mod widen;
 
 pub use rounds::least_box;
+
+#[cfg(test)]
+mod tests;

@@ -5,8 +5,8 @@ use Rattle.box_model.proofs.state_box.StateBox.+hold.Given as goal
 
 abbrev pub invariant-admits_all-each : goal.invariant-admits_all-each
 invariant-admits_all-each l =
-    list_all (may_hold l.self) (drop l.cond-index l.conds) ≡ list_all (may_hold l.self) l.conds
+    list_all (may_hold l.task.places l.self) (drop l.cond-index l.conds) ≡ list_all (may_hold l.task.places l.self) l.conds
 
 abbrev pub invariant-admits_some-each : goal.invariant-admits_some-each
 invariant-admits_some-each l =
-    list_any (may_hold l.self) (drop l.cond-index l.conds) ≡ list_any (may_hold l.self) l.conds
+    list_any (may_hold l.task.places l.self) (drop l.cond-index l.conds) ≡ list_any (may_hold l.task.places l.self) l.conds

@@ -1,5 +1,5 @@
 use Rattle.ground_task.proofs.SameStates.{same_state, state_itself}
-use Rattle.ground_task.proofs.state.state_laws.Goals as goal
+use Rattle.ground_task.proofs.laws.states.Goals as goal
 
 pub returns-clause-same : goal.returns-clause-same
 returns-clause-same c = same_state
