@@ -294,7 +294,6 @@ abbrev pub HasFewPlaces : TaskValue → StateValue → Ground → Type 0
 HasFewPlaces t s a = All (λ effect. (trimmed (value_of t.places s (right_side effect.1))).p ≤ get_or t.places effect.0 0) a.nums
 
 module _ (t : TaskValue) (b : StateBox) where
-
   pub closed_at : (actions : List Ground) (number : ℕ) (a : Ground) → list_all (λ a. not (is_unmet t.places b a)) actions ≡ true → slice_get actions number ≡ Some a → not (is_unmet t.places b a) ≡ true
   closed_at [] number a h e = cc
   closed_at (c ∷ cs) zero a h e = subst (λ (g : Ground). not (is_unmet t.places b g) ≡ true) (some_same c a e) (and_parts (not (is_unmet t.places b c)) _ h).0
@@ -308,7 +307,6 @@ module _ (t : TaskValue) (b : StateBox) where
       not_not false e = cc
 
 module _ (t : TaskValue) (b : StateBox) (a_box : IsBoxOf t b) where
-
   meets_inside : (s next : StateValue) (a : Ground) → Contains t.places b s → Leads t.places s a next → meets t.places b a ≡ true → HasFewPlaces t s a → Contains t.places b next
   meets_inside s next a inside leads h few =
       let first = and_parts (list_all (λ f. may_be (fact_in b f) true) a.adds && list_all (λ f. list_any (λ g. g == f) a.adds || may_be (fact_in b f) false) a.dels) _ h in

@@ -68,7 +68,6 @@ module _ (b c : StateBox) (within : LiesWithin b c) where
       ]
 
 module _ (places : List ℕ) (b c : StateBox) (within : LiesWithin b c) (fits : AllFit places b) (fits' : AllFit places c) where
-
   layer_wider : (o : GExpr-F GExpr) → is_within (interval_layer places b (map-GExpr GExpr Interval (interval_of places b) o)) (interval_layer places c (map-GExpr GExpr Interval (interval_of places c) o)) ≡ true
   layer_wider (expr.Const d) = and_from _ _ (most_refl d) (most_refl d)
   layer_wider (expr.Read x) =

@@ -6,7 +6,6 @@ use Rattle.std.proofs.lemmas.List.{drop_more, drop_all}
 use Rattle.std.proofs.lemmas.Iterator.Adapters.{position_from-zero}
 
 module _ {X : Type 0} (test : X → Bool) (xs : List X) (n : ℕ) where
-
   at_place : (x : X) → n < length xs → x ≡ get_or xs n x → position_from test n (drop n xs) ≡ cond (test x) (Some n) (position_from test (n + 1) (drop (n + 1) xs))
   at_place x h is =
       ap (position_from test n) (drop_more xs n x h) ∙ ap (λ y. cond (test y) (Some n) (position_from test (n + 1) (drop (n + 1) xs))) (sym is)
@@ -28,8 +27,9 @@ pub none_passes : {X : Type 0} (test : X → Bool) (xs : List X) (i : ℕ) → N
 none_passes test [] i h = refl
 none_passes test (x ∷ xs) i h =
     elim (cases_Bool (test x)) [
-      inl passes ↦ absurd (not_some i (h ∙ ap (λ (v : Bool). cond v (Some i) (position_from test (i + 1) xs)) passes))
-    | inr fails ↦ and_from (not (test x)) _ (ap not fails) (none_passes test xs (i + 1) (h ∙ ap (λ (v : Bool). cond v (Some i) (position_from test (i + 1) xs)) fails)) ]
+      | inl passes ↦ absurd (not_some i (h ∙ ap (λ (v : Bool). cond v (Some i) (position_from test (i + 1) xs)) passes))
+      | inr fails ↦ and_from (not (test x)) _ (ap not fails) (none_passes test xs (i + 1) (h ∙ ap (λ (v : Bool). cond v (Some i) (position_from test (i + 1) xs)) fails))
+    ]
   where
     not_some : (i : ℕ) → None ≡ Some i → ⊥
     not_some i e = cc

@@ -98,103 +98,126 @@ below_top : (a b : ℤ) → up a + down b ≤ up b + down a → int_lt top_numbe
 below_top a b h f = sym (false_is_lt top_number a (omega (arith, ints)))
 
 module _ (q : ℕ) (a b : ℤ) where
-
   open_open : up a + down b ≤ up b + down a → lower_covers (outward_lower (Excl (at_places q a))) (outward_lower (Excl (at_places q b))) ≡ true
   open_open h =
       elim (cases_Bool (int_lt a bottom_number)) [
-        inl t ↦ rw t refl
-      | inr f ↦ elim (cases_Bool (int_le top_number a)) [
-          inl u ↦
-            let v : int_le top_number b ≡ true = sym (true_is_le top_number b (omega (arith, ints))) in
-            rw (f, u, above_bottom a b h f, v) (most_refl (top q))
-        | inr g ↦ elim (cases_Bool (int_le top_number b)) [
-            inl v ↦ rw (f, g, above_bottom a b h f, v) (less_here q a top_number (omega (arith, ints)))
-          | inr w ↦ rw (f, g, above_bottom a b h f, w) (most_here q a b h) ] ] ]
+        | inl t ↦ rw t refl
+        | inr f ↦ elim (cases_Bool (int_le top_number a)) [
+          | inl u ↦
+              let v : int_le top_number b ≡ true = sym (true_is_le top_number b (omega (arith, ints))) in
+              rw (f, u, above_bottom a b h f, v) (most_refl (top q))
+          | inr g ↦ elim (cases_Bool (int_le top_number b)) [
+            | inl v ↦ rw (f, g, above_bottom a b h f, v) (less_here q a top_number (omega (arith, ints)))
+            | inr w ↦ rw (f, g, above_bottom a b h f, w) (most_here q a b h)
+          ]
+        ]
+      ]
 
   open_closed : up a + down b < up b + down a → lower_covers (outward_lower (Excl (at_places q a))) (outward_lower (Incl (at_places q b))) ≡ true
   open_closed h =
       elim (cases_Bool (int_lt a bottom_number)) [
-        inl t ↦ rw t refl
-      | inr f ↦ elim (cases_Bool (int_le top_number a)) [
-          inl u ↦
-            let v : int_lt top_number b ≡ true = sym (true_is_lt top_number b (omega (arith, ints))) in
-            rw (f, u, above_bottom a b (omega arith) f, v) (most_refl (top q))
-        | inr g ↦ elim (cases_Bool (int_lt top_number b)) [
-            inl v ↦ rw (f, g, above_bottom a b (omega arith) f, v) (less_here q a top_number (omega (arith, ints)))
-          | inr w ↦ rw (f, g, above_bottom a b (omega arith) f, w) (less_here q a b h) ] ] ]
+        | inl t ↦ rw t refl
+        | inr f ↦ elim (cases_Bool (int_le top_number a)) [
+          | inl u ↦
+              let v : int_lt top_number b ≡ true = sym (true_is_lt top_number b (omega (arith, ints))) in
+              rw (f, u, above_bottom a b (omega arith) f, v) (most_refl (top q))
+          | inr g ↦ elim (cases_Bool (int_lt top_number b)) [
+            | inl v ↦ rw (f, g, above_bottom a b (omega arith) f, v) (less_here q a top_number (omega (arith, ints)))
+            | inr w ↦ rw (f, g, above_bottom a b (omega arith) f, w) (less_here q a b h)
+          ]
+        ]
+      ]
 
   closed_open : up a + down b ≤ up b + down a → lower_covers (outward_lower (Incl (at_places q a))) (outward_lower (Excl (at_places q b))) ≡ true
   closed_open h =
       elim (cases_Bool (int_lt a bottom_number)) [
-        inl t ↦ rw t refl
-      | inr f ↦ elim (cases_Bool (int_lt top_number a)) [
-          inl u ↦
-            let v : int_le top_number b ≡ true = sym (true_is_le top_number b (omega (arith, ints))) in
-            rw (f, u, above_bottom a b h f, v) (most_refl (top q))
-        | inr g ↦ elim (cases_Bool (int_le top_number b)) [
-            inl v ↦ rw (f, g, above_bottom a b h f, v) (most_here q a top_number (omega (arith, ints)))
-          | inr w ↦ rw (f, g, above_bottom a b h f, w) (most_here q a b h) ] ] ]
+        | inl t ↦ rw t refl
+        | inr f ↦ elim (cases_Bool (int_lt top_number a)) [
+          | inl u ↦
+              let v : int_le top_number b ≡ true = sym (true_is_le top_number b (omega (arith, ints))) in
+              rw (f, u, above_bottom a b h f, v) (most_refl (top q))
+          | inr g ↦ elim (cases_Bool (int_le top_number b)) [
+            | inl v ↦ rw (f, g, above_bottom a b h f, v) (most_here q a top_number (omega (arith, ints)))
+            | inr w ↦ rw (f, g, above_bottom a b h f, w) (most_here q a b h)
+          ]
+        ]
+      ]
 
   closed_closed : up a + down b ≤ up b + down a → lower_covers (outward_lower (Incl (at_places q a))) (outward_lower (Incl (at_places q b))) ≡ true
   closed_closed h =
       elim (cases_Bool (int_lt a bottom_number)) [
-        inl t ↦ rw t refl
-      | inr f ↦ elim (cases_Bool (int_lt top_number a)) [
-          inl u ↦
-            let v : int_lt top_number b ≡ true = sym (true_is_lt top_number b (omega (arith, ints))) in
-            rw (f, u, above_bottom a b h f, v) (most_refl (top q))
-        | inr g ↦ elim (cases_Bool (int_lt top_number b)) [
-            inl v ↦ rw (f, g, above_bottom a b h f, v) (most_here q a top_number (omega (arith, ints)))
-          | inr w ↦ rw (f, g, above_bottom a b h f, w) (most_here q a b h) ] ] ]
+        | inl t ↦ rw t refl
+        | inr f ↦ elim (cases_Bool (int_lt top_number a)) [
+          | inl u ↦
+              let v : int_lt top_number b ≡ true = sym (true_is_lt top_number b (omega (arith, ints))) in
+              rw (f, u, above_bottom a b h f, v) (most_refl (top q))
+          | inr g ↦ elim (cases_Bool (int_lt top_number b)) [
+            | inl v ↦ rw (f, g, above_bottom a b h f, v) (most_here q a top_number (omega (arith, ints)))
+            | inr w ↦ rw (f, g, above_bottom a b h f, w) (most_here q a b h)
+          ]
+        ]
+      ]
 
   -- the same of upper ends, where a is at least b
   open_open' : up b + down a ≤ up a + down b → upper_covers (outward_upper (Excl (at_places q a))) (outward_upper (Excl (at_places q b))) ≡ true
   open_open' h =
       elim (cases_Bool (int_lt top_number a)) [
-        inl t ↦ rw t refl
-      | inr f ↦ elim (cases_Bool (int_le a bottom_number)) [
-          inl u ↦
-            let v : int_le b bottom_number ≡ true = sym (true_is_le b bottom_number (omega (arith, ints))) in
-            rw (f, u, below_top b a h f, v) (most_refl (bottom q))
-        | inr g ↦ elim (cases_Bool (int_le b bottom_number)) [
-            inl v ↦ rw (f, g, below_top b a h f, v) (less_here q bottom_number a (omega (arith, ints)))
-          | inr w ↦ rw (f, g, below_top b a h f, w) (most_here q b a h) ] ] ]
+        | inl t ↦ rw t refl
+        | inr f ↦ elim (cases_Bool (int_le a bottom_number)) [
+          | inl u ↦
+              let v : int_le b bottom_number ≡ true = sym (true_is_le b bottom_number (omega (arith, ints))) in
+              rw (f, u, below_top b a h f, v) (most_refl (bottom q))
+          | inr g ↦ elim (cases_Bool (int_le b bottom_number)) [
+            | inl v ↦ rw (f, g, below_top b a h f, v) (less_here q bottom_number a (omega (arith, ints)))
+            | inr w ↦ rw (f, g, below_top b a h f, w) (most_here q b a h)
+          ]
+        ]
+      ]
 
   open_closed' : up b + down a < up a + down b → upper_covers (outward_upper (Excl (at_places q a))) (outward_upper (Incl (at_places q b))) ≡ true
   open_closed' h =
       elim (cases_Bool (int_lt top_number a)) [
-        inl t ↦ rw t refl
-      | inr f ↦ elim (cases_Bool (int_le a bottom_number)) [
-          inl u ↦
-            let v : int_lt b bottom_number ≡ true = sym (true_is_lt b bottom_number (omega (arith, ints))) in
-            rw (f, u, below_top b a (omega arith) f, v) (most_refl (bottom q))
-        | inr g ↦ elim (cases_Bool (int_lt b bottom_number)) [
-            inl v ↦ rw (f, g, below_top b a (omega arith) f, v) (less_here q bottom_number a (omega (arith, ints)))
-          | inr w ↦ rw (f, g, below_top b a (omega arith) f, w) (less_here q b a h) ] ] ]
+        | inl t ↦ rw t refl
+        | inr f ↦ elim (cases_Bool (int_le a bottom_number)) [
+          | inl u ↦
+              let v : int_lt b bottom_number ≡ true = sym (true_is_lt b bottom_number (omega (arith, ints))) in
+              rw (f, u, below_top b a (omega arith) f, v) (most_refl (bottom q))
+          | inr g ↦ elim (cases_Bool (int_lt b bottom_number)) [
+            | inl v ↦ rw (f, g, below_top b a (omega arith) f, v) (less_here q bottom_number a (omega (arith, ints)))
+            | inr w ↦ rw (f, g, below_top b a (omega arith) f, w) (less_here q b a h)
+          ]
+        ]
+      ]
 
   closed_open' : up b + down a ≤ up a + down b → upper_covers (outward_upper (Incl (at_places q a))) (outward_upper (Excl (at_places q b))) ≡ true
   closed_open' h =
       elim (cases_Bool (int_lt top_number a)) [
-        inl t ↦ rw t refl
-      | inr f ↦ elim (cases_Bool (int_lt a bottom_number)) [
-          inl u ↦
-            let v : int_le b bottom_number ≡ true = sym (true_is_le b bottom_number (omega (arith, ints))) in
-            rw (f, u, below_top b a h f, v) (most_refl (bottom q))
-        | inr g ↦ elim (cases_Bool (int_le b bottom_number)) [
-            inl v ↦ rw (f, g, below_top b a h f, v) (most_here q bottom_number a (omega (arith, ints)))
-          | inr w ↦ rw (f, g, below_top b a h f, w) (most_here q b a h) ] ] ]
+        | inl t ↦ rw t refl
+        | inr f ↦ elim (cases_Bool (int_lt a bottom_number)) [
+          | inl u ↦
+              let v : int_le b bottom_number ≡ true = sym (true_is_le b bottom_number (omega (arith, ints))) in
+              rw (f, u, below_top b a h f, v) (most_refl (bottom q))
+          | inr g ↦ elim (cases_Bool (int_le b bottom_number)) [
+            | inl v ↦ rw (f, g, below_top b a h f, v) (most_here q bottom_number a (omega (arith, ints)))
+            | inr w ↦ rw (f, g, below_top b a h f, w) (most_here q b a h)
+          ]
+        ]
+      ]
 
   closed_closed' : up b + down a ≤ up a + down b → upper_covers (outward_upper (Incl (at_places q a))) (outward_upper (Incl (at_places q b))) ≡ true
   closed_closed' h =
       elim (cases_Bool (int_lt top_number a)) [
-        inl t ↦ rw t refl
-      | inr f ↦ elim (cases_Bool (int_lt a bottom_number)) [
-          inl u ↦
-            let v : int_lt b bottom_number ≡ true = sym (true_is_lt b bottom_number (omega (arith, ints))) in
-            rw (f, u, below_top b a h f, v) (most_refl (bottom q))
-        | inr g ↦ elim (cases_Bool (int_lt b bottom_number)) [
-            inl v ↦ rw (f, g, below_top b a h f, v) (most_here q bottom_number a (omega (arith, ints)))
-          | inr w ↦ rw (f, g, below_top b a h f, w) (most_here q b a h) ] ] ]
+        | inl t ↦ rw t refl
+        | inr f ↦ elim (cases_Bool (int_lt a bottom_number)) [
+          | inl u ↦
+              let v : int_lt b bottom_number ≡ true = sym (true_is_lt b bottom_number (omega (arith, ints))) in
+              rw (f, u, below_top b a h f, v) (most_refl (bottom q))
+          | inr g ↦ elim (cases_Bool (int_lt b bottom_number)) [
+            | inl v ↦ rw (f, g, below_top b a h f, v) (most_here q bottom_number a (omega (arith, ints)))
+            | inr w ↦ rw (f, g, below_top b a h f, w) (most_here q b a h)
+          ]
+        ]
+      ]
 
 most_of : (q : ℕ) (a b : ℤ) → is_at_most (at_places q a) (at_places q b) ≡ true → up a + down b ≤ up b + down a
 most_of q a b h =
@@ -253,11 +276,11 @@ pub read_wider : (q : ℕ) (i j : Interval) → AreEndsFor q i → AreEndsFor q 
 read_wider q i j fits fits' w =
     let parts = and_parts (lower_covers j.0 i.0) (upper_covers j.1 i.1) w in
     let low : lower_covers (end_at q (trimmed_end j.0)) (end_at q (trimmed_end i.0)) ≡ true =
-        lower_covers_trans (end_at q (trimmed_end j.0)) j.0 (end_at q (trimmed_end i.0)) (placed_lower q j.0 fits'.0)
-          (lower_covers_trans j.0 i.0 (end_at q (trimmed_end i.0)) parts.0 (lower_placed q i.0 fits.0)) in
+    lower_covers_trans (end_at q (trimmed_end j.0)) j.0 (end_at q (trimmed_end i.0)) (placed_lower q j.0 fits'.0)
+    (lower_covers_trans j.0 i.0 (end_at q (trimmed_end i.0)) parts.0 (lower_placed q i.0 fits.0)) in
     let high : upper_covers (end_at q (trimmed_end j.1)) (end_at q (trimmed_end i.1)) ≡ true =
-        upper_covers_trans (end_at q (trimmed_end j.1)) j.1 (end_at q (trimmed_end i.1)) (placed_upper q j.1 fits'.1)
-          (upper_covers_trans j.1 i.1 (end_at q (trimmed_end i.1)) parts.1 (upper_placed q i.1 fits.1)) in
+    upper_covers_trans (end_at q (trimmed_end j.1)) j.1 (end_at q (trimmed_end i.1)) (placed_upper q j.1 fits'.1)
+    (upper_covers_trans j.1 i.1 (end_at q (trimmed_end i.1)) parts.1 (upper_placed q i.1 fits.1)) in
     and_from _ _ (lower_moved q (trimmed_end j.0) (trimmed_end i.0) low) (upper_moved q (trimmed_end j.1) (trimmed_end i.1) high)
 
 -- ---- boxes
@@ -273,8 +296,9 @@ all_fit t b a x h = (a.lower_fits x h, a.upper_fits x h)
 pub fits_anywhere : (places : List ℕ) (b : StateBox) → AllFit places b → (x : ℕ) → AreEndsFor (get_or places x 0) (fluent_in b x)
 fits_anywhere places b all x =
     elim (cases_lt x (length b.fluents)) [
-      inl h ↦ all x h
-    | inr h ↦ rw (get_or_past b.fluents x whole_line h) (tt, tt) ]
+      | inl h ↦ all x h
+      | inr h ↦ rw (get_or_past b.fluents x whole_line h) (tt, tt)
+    ]
 
 -- ---- as the code has them
 
@@ -318,8 +342,8 @@ closed_placed p d e h k =
 pub placed_read : (p : ℕ) (i : Interval) (l u : End) → l ≡ i.0 → u ≡ i.1 → lower_at p (trimmed_end l) ≡ l → upper_at p (trimmed_end u) ≡ u → i ≡ read_interval p i
 placed_read p i l u e f h k =
     sym (ap₂ (λ (a b : End). (a, b))
-      (ap (λ (x : End). lower_at p (trimmed_end x)) (sym e) ∙ h ∙ e)
-      (ap (λ (x : End). upper_at p (trimmed_end x)) (sym f) ∙ k ∙ f))
+    (ap (λ (x : End). lower_at p (trimmed_end x)) (sym e) ∙ h ∙ e)
+    (ap (λ (x : End). upper_at p (trimmed_end x)) (sym f) ∙ k ∙ f))
 
 trimmed_within : (i : Interval) → is_within i (trimmed_end i.0, trimmed_end i.1) ≡ true
 trimmed_within i = and_from _ _ (trimmed_lower i.0) (trimmed_upper i.1)

@@ -49,7 +49,6 @@ module _ (places : List ℕ) (b : StateBox) (s : StateValue) (inside : Contains 
       ]
 
 module _ (places : List ℕ) (b : StateBox) (s : StateValue) (inside : Contains places b s) (fits : AllFit places b) where
-
   layer_inside : (o : GExpr-F GExpr) → has (interval_layer places b (map-GExpr GExpr Interval (interval_of places b) o)) (value_layer places s (map-GExpr GExpr Decimal (value_of places s) o)) ≡ true
   layer_inside (expr.Const c) = and_from _ _ (most_refl c) (most_refl c)
   layer_inside (expr.Read x) = has_read (get_or places x 0) (fluent_in b x) (fluent_value places s x) (fits_anywhere places b fits x) (fluent_inside places b s inside x)

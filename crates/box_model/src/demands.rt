@@ -78,8 +78,7 @@ impl StateBox {
     fn meets_dels(&self, adds: &[u32], dels: &[u32]) -> bool
         ensures { result ≡ list_all (λ f. list_any (λ g. g == f) adds.now || may_be (fact_in self.now f) false) dels.now }
     {
-        dels.iter()
-            .all(|fact| self.fact(*fact).may_be(false) || is_listed(adds, *fact))
+        dels.iter().all(|fact| self.fact(*fact).may_be(false) || is_listed(adds, *fact))
     }
 
     fn meets_assigned(&self, task: &Task, fluent: u32, expr: &GExpr) -> bool

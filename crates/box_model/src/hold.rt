@@ -82,7 +82,11 @@ impl StateBox {
             GCond::False => false,
             GCond::Fact(fact, truth) => self.fact(*fact).may_be(*truth),
             GCond::Cmp(rel, left, right) => {
-                may_stand(*rel, self.interval_of(task, left), self.interval_of(task, right))
+                may_stand(
+                    *rel,
+                    self.interval_of(task, left),
+                    self.interval_of(task, right),
+                )
             }
             GCond::And(conds) => self.admits_all(task, conds.as_slice()),
             GCond::Or(conds) => self.admits_some(task, conds.as_slice()),

@@ -114,7 +114,13 @@ fn data(alloc: Global, row: Row) -> Result<RawTask, NoMemory>
     ensures fluents { IfOk result (λ raw. length raw.fluents ≡ 2) }
 {
     let moves = action(alloc, b"(a)", row.guard, 0, row.step)?;
-    let follows = action(alloc, b"(b)", Some((Rel::GreaterEqual, row.needed)), 1, Step::Set(7))?;
+    let follows = action(
+        alloc,
+        b"(b)",
+        Some((Rel::GreaterEqual, row.needed)),
+        1,
+        Step::Set(7),
+    )?;
     Ok(RawTask {
         facts: List::new(alloc),
         fluents: pair(alloc, text(alloc, b"(x)")?, text(alloc, b"(y)")?)?,
@@ -161,10 +167,26 @@ fn least_boxes(rt: HostRuntime) -> Result<(), Fail> {
     use Step::{Add, Set};
     let alloc = rt.alloc();
     let rows = [
-        ((0, Some((Rel::Less, 2)), Add(1), 2), (Closed(0), Open(3)), Closed(7)),
-        ((0, Some((Rel::Less, 2)), Add(1), 3), (Closed(0), Open(3)), Closed(0)),
-        ((0, Some((Rel::LessEqual, 2)), Add(1), 3), (Closed(0), Closed(3)), Closed(7)),
-        ((5, Some((Rel::Greater, 1)), Add(-2), 6), (Open(-1), Closed(5)), Closed(0)),
+        (
+            (0, Some((Rel::Less, 2)), Add(1), 2),
+            (Closed(0), Open(3)),
+            Closed(7),
+        ),
+        (
+            (0, Some((Rel::Less, 2)), Add(1), 3),
+            (Closed(0), Open(3)),
+            Closed(0),
+        ),
+        (
+            (0, Some((Rel::LessEqual, 2)), Add(1), 3),
+            (Closed(0), Closed(3)),
+            Closed(7),
+        ),
+        (
+            (5, Some((Rel::Greater, 1)), Add(-2), 6),
+            (Open(-1), Closed(5)),
+            Closed(0),
+        ),
         ((0, None, Add(1), 100), (Closed(0), Infinite), Closed(7)),
         ((3, None, Set(5), 5), (Closed(3), Closed(5)), Closed(7)),
     ];
@@ -180,8 +202,14 @@ fn least_boxes(rt: HostRuntime) -> Result<(), Fail> {
         let y = state_box.fluents.as_slice()[1];
         assert!(rt; is_edge(x.lower(), *lower), "the lower end of x in row {i}");
         assert!(rt; is_edge(x.upper(), *upper), "the upper end of x in row {i}");
-        assert!(rt; is_edge(y.lower(), Closed(0)), "the lower end of y in row {i}");
-        assert!(rt; is_edge(y.upper(), *upper_of_y), "the upper end of y in row {i}");
+        assert!(rt;
+            is_edge(y.lower(), Closed(0)),
+            "the lower end of y in row {i}"
+        );
+        assert!(rt;
+            is_edge(y.upper(), *upper_of_y),
+            "the upper end of y in row {i}"
+        );
     }
     Ok(())
 }

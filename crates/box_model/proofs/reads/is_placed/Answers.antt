@@ -6,12 +6,12 @@ use Rattle.box_model.proofs.reads.is_placed.Goals as goal
 opened : (c : goal.After-is_inner) → c.is_inner.result ≡ true → IsPlaced c.args.p c.args.end
 opened c h =
     subst (λ (e : End). IsPlaced c.args.p e) (sym c.in-Excl.is)
-      (open_placed c.args.p c.in-Excl.d (c.is_inner.ensures.places h) (c.is_inner.ensures.above h) (c.is_inner.ensures.below h))
+    (open_placed c.args.p c.in-Excl.d (c.is_inner.ensures.places h) (c.is_inner.ensures.above h) (c.is_inner.ensures.below h))
 
 closed : (c : goal.After-is_inner-in-Incl) → c.is_inner-in-Incl.result ≡ true → IsPlaced c.args.p c.args.end
 closed c h =
     subst (λ (e : End). IsPlaced c.args.p e) (sym c.in-Incl.is)
-      (closed_placed c.args.p c.in-Incl.d (c.is_inner-in-Incl.ensures.places h) (c.is_inner-in-Incl.ensures.above h) (c.is_inner-in-Incl.ensures.below h))
+    (closed_placed c.args.p c.in-Incl.d (c.is_inner-in-Incl.ensures.places h) (c.is_inner-in-Incl.ensures.above h) (c.is_inner-in-Incl.ensures.below h))
 
 pub returns-in-Excl-clause-lower : goal.returns-in-Excl-clause-lower
 returns-in-Excl-clause-lower c = λ h. (opened c h).lower

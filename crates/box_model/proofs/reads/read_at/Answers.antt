@@ -9,5 +9,5 @@ pub returns-in-None : goal.returns-in-None
 returns-in-None c =
     let i = c.args.interval in
     let none : is_inhabited (trimmed_end i.0) (trimmed_end i.1) ≡ false =
-        sym (ap₂ is_inhabited (c.trimmed.ensures ∙ ap trimmed_end c.lower-2.ensures) (c.trimmed-2.ensures ∙ ap trimmed_end c.upper-2.ensures)) ∙ c.in-None.ensures in
+    sym (ap₂ is_inhabited (c.trimmed.ensures ∙ ap trimmed_end c.lower-2.ensures) (c.trimmed-2.ensures ∙ ap trimmed_end c.upper-2.ensures)) ∙ c.in-None.ensures in
     absurd (both_ways (is_inhabited (trimmed_end i.0) (trimmed_end i.1)) none (trimmed_inhabited i c.requires.inhabited))

@@ -9,4 +9,4 @@ each-preserved c =
     let fluent = get_or_read c.args.fluents.now i c.index-fluents-i.result c.each-test.true c.index-fluents-i.is whole_line in
     let other = get_or_read c.args.others.now i c.index-others-i.result (subst (λ (n : ℕ). i < n) c.requires c.each-test.true) c.index-others-i.is whole_line in
     below_more (λ x. is_within (get_or c.args.fluents.now x whole_line) (get_or c.args.others.now x whole_line) ≡ true) i c.each.invariant
-      (sym (c.if-not-within.ensures ∙ ap₂ is_within fluent other))
+    (sym (c.if-not-within.ensures ∙ ap₂ is_within fluent other))

@@ -12,7 +12,7 @@ returns-then-is_unmet-clause-first c =
     let actions : c.as_slice-actions.result.now ≡ t.raw.actions = c.as_slice-actions.ensures ∙ ap (λ (r : RawTask). r.actions) c.raw.ensures.value in
     let a : Ground = c.index-actions-number.result in
     found_at test t.raw.actions c.each.number a (subst (λ (xs : List Ground). c.each.number < length xs) actions c.each-test.true)
-      (c.index-actions-number.is ∙ ap (λ (xs : List Ground). get_or xs c.each.number a) actions) c.if-is_unmet.ensures c.each.invariant
+    (c.index-actions-number.is ∙ ap (λ (xs : List Ground). get_or xs c.each.number a) actions) c.if-is_unmet.ensures c.each.invariant
 
 pub each-preserved : goal.each-preserved
 each-preserved c =
@@ -21,7 +21,7 @@ each-preserved c =
     let actions : c.as_slice-actions.result.now ≡ t.raw.actions = c.as_slice-actions.ensures ∙ ap (λ (r : RawTask). r.actions) c.raw.ensures.value in
     let a : Ground = c.index-actions-number.result in
     sym (passed_over test t.raw.actions c.each.number a (subst (λ (xs : List Ground). c.each.number < length xs) actions c.each-test.true)
-      (c.index-actions-number.is ∙ ap (λ (xs : List Ground). get_or xs c.each.number a) actions) c.if-is_unmet.ensures) ∙ c.each.invariant
+    (c.index-actions-number.is ∙ ap (λ (xs : List Ground). get_or xs c.each.number a) actions) c.if-is_unmet.ensures) ∙ c.each.invariant
 
 pub returns-clause-first : goal.returns-clause-first
 returns-clause-first c =
