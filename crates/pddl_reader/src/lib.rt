@@ -1,0 +1,7 @@
+//! Texts of domains and problems of PDDL read as data, or their first fault.
+#![tactic(auto)]
+
+mod faults;
+mod first;
+
+pub use faults::{Fault, ReadFault, Reason};
