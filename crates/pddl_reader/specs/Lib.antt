@@ -1,3 +1,6 @@
 pub mod Faults
 pub mod Words
 pub mod Forms
+pub mod Lists
+pub mod Sections
+pub mod Texts
