@@ -4,3 +4,4 @@ pub mod Forms
 pub mod Lists
 pub mod Sections
 pub mod Texts
+pub mod Grammar
