@@ -3,5 +3,6 @@
 
 mod faults;
 mod first;
+mod words;
 
 pub use faults::{Fault, ReadFault, Reason};
