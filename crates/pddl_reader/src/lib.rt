@@ -3,6 +3,7 @@
 
 mod faults;
 mod first;
+mod forms;
 mod words;
 
 pub use faults::{Fault, ReadFault, Reason};

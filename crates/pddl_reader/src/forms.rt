@@ -1,0 +1,73 @@
+//! Trees by their places and words, and the faults of lists that have too few or too many parts.
+
+ghost use Rattle.std.specs.Prelude.{◌≡◌, ℕ, List, map, option_map, IfOk};
+ghost use Rattle.sexp_text.specs.Pieces.{folded};
+ghost use Rattle.pddl_reader.specs.Faults.{all_noted};
+ghost use Rattle.pddl_reader.specs.Forms.{extra, form_of, forms_of, head_word, missing};
+
+use crate::faults::Reason;
+use crate::first::Notes;
+use crate::words::bytes_at;
+use num_ends::NoMemory;
+use pddl_terms::Name;
+use sexp_text::{Tree, folded_text};
+use std::alloc::Global;
+
+/// The position of a tree's first byte.
+#[tactic(auto, using(crate::proofs::Trees::place_of_leaf, crate::proofs::Trees::place_of_list))]
+pub(crate) fn position(tree: &Tree) -> u32
+    ensures { (text : List ℕ) → result ≡ (form_of text tree.now).at }
+{
+    match tree {
+        Tree::Leaf(span) => span.from,
+        Tree::List(span, _) => span.from,
+    }
+}
+
+/// The word that a tree is, where it is a leaf.
+#[tactic(auto, using(crate::proofs::Trees::word_of_leaf, crate::proofs::Trees::word_of_list))]
+pub(crate) fn word_of<'a>(text: &'a [u8], tree: &Tree) -> Option<&'a [u8]>
+    ensures { option_map (λ word. map folded word.now) result ≡ (form_of text.now tree.now).word }
+{
+    match tree {
+        Tree::Leaf(span) => Some(bytes_at(text, *span)),
+        Tree::List(_, _) => None,
+    }
+}
+
+/// The word that a list begins with, where it begins with one.
+pub(crate) fn head_of<'a>(text: &'a [u8], trees: &[Tree]) -> Option<&'a [u8]>
+    ensures { option_map (λ word. map folded word.now) result ≡ head_word (forms_of text.now trees.now) }
+{
+    match trees {
+        [] => None,
+        [first, ..] => word_of(text, first),
+    }
+}
+
+/// Notes that a list at a position has fewer parts than it must have.
+pub(crate) fn note_missing(at: u32, count: usize, trees: &[Tree], notes: &mut Notes)
+    ensures { (text : List ℕ) → notes.new.first ≡ all_noted notes.old.first (missing at count (forms_of text trees.now)) }
+{
+    if trees.len() < count {
+        notes.note(at, Reason::Shape);
+    }
+}
+
+#[tactic(auto, using(crate::proofs::Trees::extra_there))]
+/// Notes the first part past those that a list may have.
+pub(crate) fn note_extra(count: usize, trees: &[Tree], notes: &mut Notes)
+    ensures { (text : List ℕ) → notes.new.first ≡ all_noted notes.old.first (extra count (forms_of text trees.now)) }
+{
+    if count < trees.len() {
+        notes.note(position(&trees[count]), Reason::Shape);
+    }
+}
+
+/// A word as a name, its letters folded.
+pub(crate) fn name(alloc: Global, at: u32, word: &[u8]) -> Result<Name, NoMemory>
+    ensures { IfOk result (λ name. name ≡ record { text = map folded word.now; at = at }) }
+{
+    let text = folded_text(alloc, word)?;
+    Ok(Name { text, at })
+}
