@@ -1,2 +1,4 @@
 pub mod Numbers
 pub mod Trees
+pub mod Noted
+pub mod Arguments

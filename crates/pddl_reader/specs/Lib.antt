@@ -5,3 +5,4 @@ pub mod Lists
 pub mod Sections
 pub mod Texts
 pub mod Grammar
+pub mod Gathered

@@ -1,6 +1,7 @@
 //! Texts of domains and problems of PDDL read as data, or their first fault.
 #![tactic(auto)]
 
+mod atoms;
 mod faults;
 mod first;
 mod forms;
