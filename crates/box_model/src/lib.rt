@@ -17,5 +17,3 @@ pub use laws::{
 };
 pub use state_box::{May, StateBox};
 
-#[cfg(test)]
-mod tests;

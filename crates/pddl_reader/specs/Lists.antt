@@ -85,7 +85,7 @@ unfoldable pub typed_from : Kind → ℕ → ℕ → Bool → List Name → List
 typed_from kind at seen true waiting [] = record { items = untyped waiting; faults = shape_at at ∷ [] }
 typed_from kind at seen false waiting [] = record { items = untyped waiting; faults = [] }
 typed_from kind at seen true waiting (t ∷ ts) =
-    after (option_map_or (λ n. typed_as n waiting) (type_name t) []) (type_faults t) (typed_from kind at seen false [] ts)
+    after (option_map_or (λ n. typed_as n waiting) (type_name t) (untyped waiting)) (type_faults t) (typed_from kind at seen false [] ts)
 typed_from kind at seen false waiting (t ∷ ts) =
     if is_word (codes "-") t then after [] (if nat_lt 0 (length waiting) then [] else shape_at t.at ∷ []) (typed_from kind at seen true waiting ts)
     else (if fits_kind kind t then after [] (past_limit kind seen t.at) (typed_from kind at (suc seen) false (waiting ++ named_at t.at (word_or_empty t) ∷ []) ts)

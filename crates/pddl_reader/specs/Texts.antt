@@ -153,7 +153,7 @@ abbrev pub domain_in : List ℕ → List Tree → Parsed Domain
 domain_in text [] = misfit Domain 0
 domain_in text (t ∷ ts) =
     let d = domain_tree text t in
-    record { value = d.value; faults = d.faults ++ further_trees text (t ∷ ts) ++ all_leaves text (t ∷ ts) }
+    record { value = d.value; faults = all_leaves text (t ∷ ts) ++ further_trees text (t ∷ ts) ++ d.faults }
 
 -- ---- problems
 
@@ -208,7 +208,7 @@ abbrev pub problem_in : List ℕ → List Tree → Parsed Problem
 problem_in text [] = misfit Problem 0
 problem_in text (t ∷ ts) =
     let p = problem_tree text t in
-    record { value = p.value; faults = p.faults ++ further_trees text (t ∷ ts) ++ problem_leaves text t ++ all_leaves text ts }
+    record { value = p.value; faults = problem_leaves text t ++ all_leaves text ts ++ further_trees text (t ∷ ts) ++ p.faults }
 
 -- ---- answers
 

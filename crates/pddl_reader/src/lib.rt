@@ -5,6 +5,7 @@ mod atoms;
 mod faults;
 mod first;
 mod forms;
+mod leaves;
 mod words;
 
 pub use faults::{Fault, ReadFault, Reason};
