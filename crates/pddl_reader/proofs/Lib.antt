@@ -2,4 +2,4 @@ pub mod Numbers
 pub mod Trees
 pub mod Noted
 pub mod Arguments
-pub mod Leaves
+pub mod LeafFaults

@@ -53,7 +53,7 @@ fn note_leaf(at: u32, word: &[u8], notes: &mut Notes)
 
 /// Notes the faults of a tree's leaves.
 #[cycle(leaves)]
-#[tactic(auto, using(crate::proofs::Leaves::leaves_of_leaf, crate::proofs::Leaves::leaves_of_list))]
+#[tactic(auto, using(crate::proofs::LeafFaults::leaves_of_leaf, crate::proofs::LeafFaults::leaves_of_list))]
 pub(crate) fn note_leaves(text: &[u8], tree: &Tree, notes: &mut Notes)
     ensures { notes.new.first ≡ all_noted notes.old.first (leaves_of text.now tree.now) }
 {
