@@ -168,16 +168,29 @@ fn names_the_file_that_fails(rt: HostRuntime) -> Result<(), Fail> {
     Ok(())
 }
 
+/// The status and the bytes where this write fails, or the output has no more room.
+fn written(alloc: Global, failing_write: u64, room: u32) -> Result<(u8, Vec<u8>), Fail> {
+    let words = words_of(alloc, &RELAX)?;
+    let folder = folder_of(alloc, &[("d.pddl", UP), ("p.pddl", THREE)])?;
+    let mut files = MemoryFiles::new(folder, List::new(alloc));
+    let fails = List::from_vec(vec![in alloc; failing_write]?);
+    let mut sink = MemorySink::new(alloc, room, fails).map_err(|_| AllocError)?;
+    let ended = run_alone(alloc, words.as_slice(), &mut files, &mut sink);
+    Ok((ended.status, Vec::from_slice(alloc, sink.bytes())?))
+}
+
 #[test]
-fn stops_where_the_sink_is_full(rt: HostRuntime) -> Result<(), Fail> {
-    let (status, bytes) = outcome(
-        rt.alloc(),
-        &RELAX,
-        &[("d.pddl", UP), ("p.pddl", THREE)],
-        0,
-        7,
-    )?;
-    assert_eq!(rt; status, 7);
-    assert_eq!(rt; bytes.as_slice(), b"MET\nbox".as_slice());
+fn stops_at_the_write_that_fails(rt: HostRuntime) -> Result<(), Fail> {
+    for (write, room, status, text) in [
+        (1, 100, 7, ""),
+        (1, 7, 7, ""),
+        (2, 7, 7, "MET\nbox"),
+        (2, 100, 0, "MET\nbox (x)=[0,inf)\n"),
+        (0, 7, 7, "MET\nbox"),
+    ] {
+        let (ended, bytes) = written(rt.alloc(), write, room)?;
+        assert_eq!(rt; ended, status, "write {write}, room {room}");
+        assert_eq!(rt; bytes.as_slice(), text.as_bytes(), "write {write}, room {room}");
+    }
     Ok(())
 }

@@ -7,7 +7,7 @@ ghost use Rattle.ground_task.specs.Valid.{is_known_condition, is_known_expressio
 use super::least_box;
 use box_model::StateBox;
 use ground_task::{Change, GCond, GExpr, Ground, RawTask, Rel, Task};
-use num_ends::{Dec, End, List, NoMemory, Text};
+use num_ends::{Dec, End, Interval, List, NoMemory, Text};
 use std::alloc::Global;
 use std::test::Fail;
 
@@ -27,7 +27,7 @@ struct Row {
     needed: i8,
 }
 
-/// An end at a whole number, open or closed; or infinite.
+/// An end at a whole number, open or closed; or an infinite upper end.
 #[derive(Clone, Copy)]
 enum Edge {
     Open(i8),
@@ -149,13 +149,18 @@ fn relaxed(alloc: Global, row: Row) -> Result<StateBox, NoMemory>
     }
 }
 
-fn is_edge(end: End, edge: Edge) -> bool {
-    match (end, edge) {
-        (End::Excl(d), Edge::Open(n)) | (End::Incl(d), Edge::Closed(n)) => {
-            d.n == i128::from(n) && d.p == 0
-        }
-        (End::NegInf | End::PosInf, Edge::Infinite) => true,
-        _ => false,
+fn end(edge: Edge) -> End {
+    match edge {
+        Edge::Open(n) => End::Excl(whole(n)),
+        Edge::Closed(n) => End::Incl(whole(n)),
+        Edge::Infinite => End::PosInf,
+    }
+}
+
+fn is_interval(found: Interval, lower: Edge, upper: Edge) -> bool {
+    match Interval::of(end(lower), end(upper)) {
+        Some(wanted) => found.within(wanted) && wanted.within(found),
+        None => false,
     }
 }
 
@@ -200,16 +205,8 @@ fn least_boxes(rt: HostRuntime) -> Result<(), Fail> {
         let state_box = relaxed(alloc, row)?;
         let x = state_box.fluents.as_slice()[0];
         let y = state_box.fluents.as_slice()[1];
-        assert!(rt; is_edge(x.lower(), *lower), "the lower end of x in row {i}");
-        assert!(rt; is_edge(x.upper(), *upper), "the upper end of x in row {i}");
-        assert!(rt;
-            is_edge(y.lower(), Closed(0)),
-            "the lower end of y in row {i}"
-        );
-        assert!(rt;
-            is_edge(y.upper(), *upper_of_y),
-            "the upper end of y in row {i}"
-        );
+        assert!(rt; is_interval(x, *lower, *upper), "x in row {i}");
+        assert!(rt; is_interval(y, Closed(0), *upper_of_y), "y in row {i}");
     }
     Ok(())
 }
