@@ -127,7 +127,7 @@ fn data(alloc: Global, row: Row) -> Result<RawTask, NoMemory>
         true_facts: List::new(alloc),
         values: pair(alloc, whole(row.start), whole(0))?,
         actions: pair(alloc, moves, follows)?,
-        goal: GCond::True,
+        goal: guard(None),
     })
 }
 
