@@ -16,4 +16,3 @@ pub use laws::{
     plans_stay_in_closed_boxes, steps_stay_in_closed_boxes, wider_boxes_hold_more,
 };
 pub use state_box::{May, StateBox};
-

@@ -190,7 +190,11 @@ fn stops_at_the_write_that_fails(rt: HostRuntime) -> Result<(), Fail> {
     ] {
         let (ended, bytes) = written(rt.alloc(), write, room)?;
         assert_eq!(rt; ended, status, "write {write}, room {room}");
-        assert_eq!(rt; bytes.as_slice(), text.as_bytes(), "write {write}, room {room}");
+        assert_eq!(rt;
+            bytes.as_slice(),
+            text.as_bytes(),
+            "write {write}, room {room}"
+        );
     }
     Ok(())
 }

@@ -19,13 +19,7 @@ fn bare_name(word: &[u8]) -> &[u8]
 {
     match word {
         [] => word,
-        [first, rest @ ..] => {
-            if fold(*first) == b'?' {
-                rest
-            } else {
-                word
-            }
-        }
+        [first, rest @ ..] => { if fold(*first) == b'?' { rest } else { word } }
     }
 }
 
