@@ -5,6 +5,7 @@ mod calls;
 mod count;
 mod faults;
 mod files;
+mod gate;
 mod memory_files;
 mod memory_sink;
 mod real_files;
@@ -14,6 +15,7 @@ mod whole;
 
 pub use faults::Failed;
 pub use files::Files;
+pub use gate::{Gate, OpenGate, Place};
 pub use memory_files::MemoryFiles;
 pub use memory_sink::MemorySink;
 pub use real_files::RealFiles;

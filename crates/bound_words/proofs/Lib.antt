@@ -1,0 +1,11 @@
+pub mod Directions
+pub mod Lists
+pub mod Rows
+pub mod Views
+pub mod Kept
+pub mod Sharing
+pub mod Picks
+pub mod Turns
+pub mod SweepLaws
+pub mod Closing
+pub mod Distances

@@ -1,0 +1,9 @@
+pub mod Rows
+pub mod Protocol
+pub mod Fitting
+pub mod Sweeps
+pub mod Turns
+pub mod Seats
+pub mod Samples
+pub mod SampleLaws
+pub mod Distance

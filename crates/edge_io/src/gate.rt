@@ -1,0 +1,24 @@
+//! Where workers on several threads can be watched or held.
+
+/// What a worker is about to do.
+#[derive(Clone, Copy, Debug, PartialEq, Eq)]
+pub enum Place {
+    /// A search worker took a node.
+    TookNode,
+    /// A relaxation worker claimed a rule, which it evaluates next.
+    ClaimedSupporter,
+}
+
+/// A worker passes it, under its number, before each step of the kind that `place` names.
+///
+/// `pass` returns, and promises nothing more: an implementation may count, or hold a worker for a while.
+pub trait Gate: Sync {
+    fn pass(&self, place: Place, worker: u32);
+}
+
+/// Lets every worker pass at once.
+pub struct OpenGate;
+
+impl Gate for OpenGate {
+    fn pass(&self, _place: Place, _worker: u32) {}
+}

@@ -1,0 +1,6 @@
+use Rattle.std.proofs.Common.{rules, ◌∷◌, Some, ap, sym, ◌∙◌}
+use Rattle.atomic_table.specs.Table.{rest}
+use Rattle.turn_lock.proofs.turn.Turn.lift.Goals as goal
+
+pub exchange-requires : goal.exchange-requires
+exchange-requires g c = let t = c.requires.took.1 in let e = ap (λ m. m.1) t.1 in (search rules, (Some t.0, e ∙ ap (λ l. (0, Some t.0) ∷ rest l) (sym e)))
