@@ -1,5 +1,5 @@
 -- A word is read as a number exactly where it is a numeral, and a numeral has no letters to fold.
-use Rattle.std.proofs.Common.{◌≡◌, ℕ, ℤ, zero, suc, ◌+◌, ◌-◌, ◌<◌, ◌≤◌, ◌^◌, Bool, true, false, cond, ◌&&◌, List, [], ◌∷◌, ◌++◌, map, length, take, drop, All, Option, Some, None, Ok, Err, codes, pos, neg_ℤ, unsigned_abs, refl, sym, ap, ap₂, subst, ◌∙◌, arith, length-drop, take_at, drop_at, append_assoc}
+use Rattle.std.proofs.Common.{◌≡◌, ℕ, ℤ, zero, suc, ◌+◌, ◌-◌, ◌<◌, ◌≤◌, ◌^◌, Bool, true, false, cond, ◌&&◌, List, [], ◌∷◌, ◌++◌, map, length, take, drop, All, Some, None, Ok, Err, codes, pos, neg_ℤ, unsigned_abs, refl, sym, ap, ap₂, subst, ◌∙◌, arith, length-drop, append_assoc}
 use Rattle.std.specs.Prelude.{bytes_eq, nat_le, nat_lt, not, ◌==◌, if◌then◌else◌}
 use Rattle.std.specs.Char.{IsAsciiDigit}
 use Rattle.std.specs.List.{list_all, prefix_len}
@@ -13,7 +13,6 @@ use Rattle.num_ends.specs.Texts.{IsNumeral}
 use Rattle.num_ends.specs.Reading.{IsReading}
 use Rattle.num_ends.specs.declared.faults.NumFault.{NumFault}
 use Rattle.num_ends.specs.declared.faults.NumFault.TheVariants.{NotNumber, TooManyPlaces, Range}
-use Rattle.num_ends.proofs.Numerals.{numeral_unique}
 use Rattle.sexp_text.specs.Pieces.{folded}
 use Rattle.pddl_reader.specs.Words.{starts_minus, without_minus, before_point, digits_of, is_numeral, numeral_value, is_taken, number_in}
 

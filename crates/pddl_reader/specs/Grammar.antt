@@ -1,6 +1,5 @@
 -- The grammar: which data a text spells, as a relation between trees and data.
-use Rattle.std.specs.Prelude.{ℕ, ◌≡◌, ◌≤◌, ◌++◌, ◌||◌, ◌&&◌, ◌==◌, Bool, true, false, not, List, [], ◌∷◌, Option, Some, None, map, length, codes, bytes_eq, flat_map, IsTrue, if◌then◌else◌}
-use Rattle.std.specs.Option.{option_map_or}
+use Rattle.std.specs.Prelude.{ℕ, ◌≡◌, ◌≤◌, ◌++◌, ◌&&◌, ◌==◌, Bool, true, false, not, List, [], ◌∷◌, Option, Some, None, map, length, codes, bytes_eq, IsTrue, if◌then◌else◌}
 use Rattle.std.specs.List.{filter, list_all}
 use Rattle.num_ends.specs.Decimal.{Decimal, origin}
 use Rattle.num_ends.specs.Names.{is_name}
@@ -30,8 +29,8 @@ use Rattle.pddl_terms.specs.declared.actions.Schema.{Schema}
 use Rattle.pddl_terms.specs.declared.files.Domain.{Domain}
 use Rattle.pddl_terms.specs.declared.files.Problem.{Problem}
 use Rattle.pddl_terms.specs.Heights.{expression_height, condition_height}
-use Rattle.pddl_reader.specs.Words.{word_in, is_among, unsupported_words, is_symbol, is_variable, is_key, is_number_word, number_in, operation_of, relation_of, change_of}
-use Rattle.pddl_reader.specs.Lists.{named_at, untyped, typed_as, implied_types, names_of, known_keys}
+use Rattle.pddl_reader.specs.Words.{word_in, is_among, unsupported_words, is_symbol, is_variable, is_number_word, number_in, operation_of, relation_of, change_of}
+use Rattle.pddl_reader.specs.Lists.{untyped, typed_as, implied_types, names_of, known_keys}
 
 -- ---- lists and trees
 

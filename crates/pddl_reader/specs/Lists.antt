@@ -1,5 +1,5 @@
 -- Typed lists and declarations: what they declare, and their faults.
-use Rattle.std.specs.Prelude.{ℕ, suc, ◌++◌, ◌||◌, ◌&&◌, ◌==◌, Bool, true, false, not, List, [], ◌∷◌, Option, Some, None, map, take, drop, length, codes, bytes_eq, nat_lt, flat_map, filter_map, option_map, if◌then◌else◌}
+use Rattle.std.specs.Prelude.{ℕ, suc, ◌++◌, ◌||◌, ◌&&◌, ◌==◌, Bool, true, false, not, List, [], ◌∷◌, Option, Some, None, map, length, codes, bytes_eq, nat_lt, flat_map, filter_map, option_map, if◌then◌else◌}
 use Rattle.std.specs.Option.{option_map_or}
 use Rattle.num_ends.specs.Names.{is_name}
 use Rattle.sexp_text.specs.declared.trees.Tree.{Tree, Tree-F, out-Tree}

@@ -1,6 +1,7 @@
 -- The sections of a domain and of a problem: what they say, and their faults.
-use Rattle.std.specs.Prelude.{ℕ, suc, ◌++◌, ◌||◌, ◌&&◌, ◌==◌, Bool, true, false, not, List, [], ◌∷◌, Option, Some, None, map, take, drop, length, codes, bytes_eq, nat_lt, flat_map, filter_map, option_map, is_some, if◌then◌else◌}
+use Rattle.std.specs.Prelude.{ℕ, ◌++◌, ◌||◌, ◌&&◌, Bool, false, not, List, [], ◌∷◌, Option, Some, None, map, take, drop, codes, bytes_eq, flat_map, filter_map, is_some, if◌then◌else◌}
 use Rattle.std.specs.Option.{option_map_or}
+use Rattle.std.specs.List.{filter}
 use Rattle.num_ends.specs.Decimal.{Decimal}
 use Rattle.num_ends.specs.Names.{is_name}
 use Rattle.sexp_text.specs.declared.trees.Tree.{Tree}
@@ -42,13 +43,13 @@ abbrev pub section_faults : List ℕ → List (List ℕ) → Tree → List Fault
 section_faults text known s =
     option_map_or (λ ts. section_front_faults known (place_of text s) (forms_of text ts)) (parts_of s) (shape_at (place_of text s) ∷ [])
 
+-- the sections of a name but for the first
+abbrev pub repeats_of : List ℕ → List Tree → List ℕ → List Fault
+repeats_of text ss word = map (λ s. shape_at (place_of text s)) (drop 1 (filter (λ s. is_headed word (form_of text s)) ss))
+
 -- a section of one name stands once, but for actions
 abbrev pub repeated_sections : List ℕ → List (List ℕ) → List Tree → List Fault
-repeated_sections text seen [] = []
-repeated_sections text seen (s ∷ ss) =
-    option_map_or
-    (λ w. (if is_among w seen && not (bytes_eq w (codes ":action")) then shape_at (place_of text s) ∷ [] else []) ++ repeated_sections text (w ∷ seen) ss)
-    (form_of text s).head (repeated_sections text seen ss)
+repeated_sections text words ss = flat_map (repeats_of text ss) (filter (λ w. not (bytes_eq w (codes ":action"))) words)
 
 -- the first section of a name
 abbrev pub section_named : List ℕ → List ℕ → List Tree → Option Tree

@@ -1,5 +1,5 @@
 -- What a text says as a domain or as a problem, and its first fault.
-use Rattle.std.specs.Prelude.{ℕ, ◌≡◌, ◌++◌, ◌||◌, ◌&&◌, ◌==◌, ◌+◌, Bool, true, false, not, List, [], ◌∷◌, Option, Some, None, Result, Ok, Err, map, take, drop, length, codes, bytes_eq, nat_lt, flat_map, filter_map, option_map, is_some, if◌then◌else◌}
+use Rattle.std.specs.Prelude.{ℕ, ◌≡◌, ◌++◌, ◌&&◌, ◌==◌, Bool, List, [], ◌∷◌, Some, None, Result, Ok, Err, map, take, drop, length, codes, nat_lt, flat_map, filter_map, option_map, is_some, if◌then◌else◌}
 use Rattle.std.specs.Option.{option_map_or}
 use Rattle.std.specs.List.{filter}
 use Rattle.num_ends.specs.Names.{is_name}
@@ -121,8 +121,9 @@ schemas_in text ss = record {
 abbrev pub requirements_faults : List ℕ → List Tree → List Fault
 requirements_faults text ss = flat_map requirement_faults (forms_of text (content_named text (codes ":requirements") ss))
 
+-- what is no section of these names, or stands a second time
 abbrev pub word_and_repeat_faults : List ℕ → List (List ℕ) → List Tree → List Fault
-word_and_repeat_faults text known ss = flat_map (section_faults text known) ss ++ repeated_sections text [] ss
+word_and_repeat_faults text known ss = flat_map (section_faults text known) ss ++ repeated_sections text known ss
 
 -- the parts of a tree behind the first two
 abbrev pub sections_of : List Tree → List Tree

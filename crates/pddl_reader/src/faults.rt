@@ -1,5 +1,6 @@
 //! Why a text is no domain or problem.
 
+use num_ends::NoMemory;
 use pddl_terms::{Name, What};
 use sexp_text::SexpFault;
 use std::alloc::{AllocError, AllocFailed};
@@ -63,6 +64,17 @@ impl<T: Drop> From<AllocFailed<T>> for ReadFault {
     ghost from_gives = { λ _ fault. fault ≡ NoMemory };
 
     fn from(_fault: AllocFailed<T>) -> ReadFault {
+        ReadFault::NoMemory
+    }
+}
+
+impl From<NoMemory> for ReadFault {
+    ghost use Rattle.std.specs.Prelude.{◌≡◌};
+    ghost use Rattle.pddl_reader.specs.declared.faults.ReadFault.TheVariants as answer;
+
+    ghost from_gives = { λ _ fault. fault ≡ answer.NoMemory };
+
+    fn from(_fault: NoMemory) -> ReadFault {
         ReadFault::NoMemory
     }
 }

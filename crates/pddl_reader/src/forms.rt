@@ -1,6 +1,6 @@
 //! Trees by their places and words, and the faults of lists that have too few or too many parts.
 
-ghost use Rattle.std.specs.Prelude.{◌≡◌, ℕ, List, map, option_map, IfOk};
+ghost use Rattle.std.specs.Prelude.{◌≡◌, ◌++◌, ℕ, List, map, option_map, IfOk};
 ghost use Rattle.sexp_text.specs.Pieces.{folded};
 ghost use Rattle.pddl_reader.specs.Faults.{all_noted};
 ghost use Rattle.pddl_reader.specs.Forms.{extra, form_of, forms_of, head_word, missing};
@@ -54,14 +54,23 @@ pub(crate) fn note_missing(at: u32, count: usize, trees: &[Tree], notes: &mut No
     }
 }
 
-#[tactic(auto, using(crate::proofs::Trees::extra_there))]
 /// Notes the first part past those that a list may have.
+#[tactic(auto, using(crate::proofs::Trees::extra_there))]
 pub(crate) fn note_extra(count: usize, trees: &[Tree], notes: &mut Notes)
     ensures { (text : List ℕ) → notes.new.first ≡ all_noted notes.old.first (extra count (forms_of text trees.now)) }
 {
     if count < trees.len() {
         notes.note(position(&trees[count]), Reason::Shape);
     }
+}
+
+/// Notes that a list at a position has too few parts, or the first part past so many.
+#[tactic(auto, using(crate::proofs::Noted::noted_append))]
+pub(crate) fn note_count(at: u32, count: usize, trees: &[Tree], notes: &mut Notes)
+    ensures { (text : List ℕ) → notes.new.first ≡ all_noted notes.old.first (missing at count (forms_of text trees.now) ++ extra count (forms_of text trees.now)) }
+{
+    note_missing(at, count, trees, notes);
+    note_extra(count, trees, notes);
 }
 
 /// A word as a name, its letters folded.

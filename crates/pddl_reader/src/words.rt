@@ -65,7 +65,7 @@ pub(crate) fn is_name(word: &[u8]) -> bool
 }
 
 #[tactic(auto, using(crate::proofs::Numbers::bytes_eq_back))]
-fn is_this(word: &[u8], listed: &[u8]) -> bool
+pub(crate) fn is_this(word: &[u8], listed: &[u8]) -> bool
     ensures { result ≡ bytes_eq listed.now (map folded word.now) }
 {
     is_word(word, listed)
