@@ -1,0 +1,16 @@
+pub mod Noted
+pub mod Hashed
+pub mod Numbered
+pub mod Found
+pub mod Layers
+pub mod Pigeons
+pub mod Climbs
+pub mod FirstFault
+pub mod Jumps
+pub mod Empties
+pub mod Distinct
+pub mod FaultlessAtoms
+pub mod FaultlessParts
+pub mod FaultlessPairs
+pub mod FaultlessWhole
+pub mod FaultlessAnswers

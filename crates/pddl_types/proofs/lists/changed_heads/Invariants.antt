@@ -1,0 +1,6 @@
+use Rattle.std.proofs.Common.{◌≡◌, ◌++◌, drop, map}
+use Rattle.pddl_types.specs.Checks.{changed_heads}
+use Rattle.pddl_types.proofs.lists.changed_heads.Given as goal
+
+abbrev pub invariant-each : goal.invariant-each
+invariant-each l = map (λ n. n.now) l.names.items ++ changed_heads (drop l.schema-index l.schemas) ≡ changed_heads l.schemas

@@ -1,0 +1,9 @@
+pub mod Faults
+pub mod Types
+pub mod Checks
+pub mod WellFormed
+pub mod Numberings
+pub mod Tables
+pub mod Answers
+pub mod Checked
+pub mod Cycles

@@ -1,0 +1,166 @@
+//! The check of a domain and a problem.
+
+ghost use Rattle.std.specs.Prelude.{◌≡◌, ◌≤◌, ◌^◌, ◌++◌, [], None, IfErr, IfOk, OnOk, length};
+ghost use Rattle.pddl_types.specs.declared.pairs.Pair.{Pair};
+ghost use Rattle.pddl_types.specs.declared.faults.CheckFault.TheVariants as fault_of;
+ghost use Rattle.pddl_types.specs.WellFormed.{WellFormed};
+ghost use Rattle.pddl_types.specs.Answers.{IsFirstFault};
+ghost use Rattle.pddl_types.specs.Faults.{all_noted, first_fault};
+ghost use Rattle.pddl_types.specs.Checks.{action_faults, declaration_faults, entry_faults, faults_of, names_of, problem_faults, with_names};
+
+use crate::atoms::Scope;
+use crate::checked::Checked;
+use crate::conditions::note_condition;
+use crate::declarations::{note_heads, note_schemas, note_signatures, note_typed, note_types};
+use crate::entries::{note_facts, note_fluents, note_repeated_values};
+use crate::faults::{CheckFault, Fault, Side};
+use crate::first::Notes;
+use crate::lists::schema_names;
+use crate::named::Named;
+use crate::seen::{Seen, note_repeated};
+use num_ends::NoMemory;
+use pddl_terms::{Domain, Problem};
+use std::alloc::Global;
+
+// Notes the faults of what a domain declares but for its actions, and gives the names of the constants.
+#[tactic(auto, using(crate::proofs::Noted::noted_append), unfolding(crate::specs::Checks::declaration_faults))]
+fn note_declarations<'a>(
+    alloc: Global,
+    named: &'a Named,
+    notes: &mut Notes,
+) -> Result<Seen<'a>, NoMemory>
+    ensures faults { OnOk result (notes.new.first ≡ all_noted notes.old.first (declaration_faults named.now.domain)) }
+    ensures constants { IfOk result (λ seen. seen ≡ with_names [] (names_of named.now.domain.constants)) }
+{
+    let domain = named.domain();
+    let mut seen = Seen::new(alloc);
+    note_types(alloc, named, notes)?;
+    note_typed(
+        alloc,
+        named,
+        Side::Domain,
+        domain.constants.as_slice(),
+        &mut seen,
+        notes,
+    )?;
+    note_heads(alloc, named, notes)?;
+    note_signatures(alloc, named, domain.predicates.as_slice(), notes)?;
+    note_signatures(alloc, named, domain.functions.as_slice(), notes)?;
+    Ok(seen)
+}
+
+#[tactic(auto, using(crate::proofs::Noted::noted_append), unfolding(crate::specs::Checks::action_faults))]
+fn note_actions(alloc: Global, named: &Named, notes: &mut Notes) -> Result<(), NoMemory>
+    ensures { OnOk result (notes.new.first ≡ all_noted notes.old.first (action_faults named.now)) }
+{
+    let schemas = named.domain().schemas.as_slice();
+    let names = schema_names(alloc, schemas)?;
+    let mut seen = Seen::new(alloc);
+    note_repeated(alloc, Side::Domain, names.as_slice(), &mut seen, notes)?;
+    note_schemas(alloc, named, schemas, notes)
+}
+
+#[tactic(auto, using(crate::proofs::Noted::noted_append), unfolding(crate::specs::Checks::entry_faults))]
+fn note_entries(alloc: Global, named: &Named, notes: &mut Notes) -> Result<(), NoMemory>
+    ensures { OnOk result (notes.new.first ≡ all_noted notes.old.first (entry_faults named.now)) }
+{
+    let problem = named.problem();
+    let scope = Scope {
+        named,
+        side: Side::Problem,
+        params: &[],
+    };
+    note_facts(alloc, &scope, problem.facts.as_slice(), notes)?;
+    note_fluents(alloc, &scope, problem.values.as_slice(), notes)?;
+    note_repeated_values(alloc, problem.values.as_slice(), notes)
+}
+
+// Notes the faults of the problem, where the names of the constants were seen.
+#[tactic(auto, using(crate::proofs::Noted::noted_append), unfolding(crate::specs::Checks::problem_faults))]
+fn note_problem<'a>(
+    alloc: Global,
+    named: &'a Named,
+    seen: &mut Seen<'a>,
+    notes: &mut Notes,
+) -> Result<(), NoMemory>
+    requires { seen.old ≡ with_names [] (names_of named.now.domain.constants) }
+    ensures { OnOk result (notes.new.first ≡ all_noted notes.old.first (problem_faults named.now)) }
+{
+    let problem = named.problem();
+    let scope = Scope {
+        named,
+        side: Side::Problem,
+        params: &[],
+    };
+    note_typed(
+        alloc,
+        named,
+        Side::Problem,
+        problem.objects.as_slice(),
+        seen,
+        notes,
+    )?;
+    note_entries(alloc, named, notes)?;
+    note_condition(alloc, &scope, &problem.goal, notes)
+}
+
+#[tactic(auto, using(crate::proofs::Noted::noted_append), unfolding(crate::specs::Checks::faults_of))]
+fn note_pair(alloc: Global, named: &Named, notes: &mut Notes) -> Result<(), NoMemory>
+    ensures { OnOk result (notes.new.first ≡ all_noted notes.old.first (faults_of named.now)) }
+{
+    let mut seen = note_declarations(alloc, named, notes)?;
+    note_actions(alloc, named, notes)?;
+    note_problem(alloc, named, &mut seen, notes)
+}
+
+fn first_of(alloc: Global, named: &Named) -> Result<Option<Fault>, NoMemory>
+    ensures { IfOk result (λ first. first ≡ first_fault (faults_of named.now)) }
+{
+    let mut notes = Notes::new();
+    note_pair(alloc, named, &mut notes)?;
+    Ok(notes.first)
+}
+
+// Lets a pair with its tables go.
+fn discard(_named: Named) {}
+
+// The pair where it has no fault, and else its first.
+fn answer(named: Named, first: Option<Fault>) -> Result<Checked, CheckFault>
+    requires noted { first ≡ first_fault (faults_of named) }
+    requires few_constants { length named.domain.constants ≤ 2 ^ 30 }
+    requires few_objects { length named.problem.objects ≤ 2 ^ 30 }
+    requires few_actions { length named.domain.schemas ≤ 2 ^ 30 }
+    ensures pair { IfOk result (λ checked. checked ≡ named) }
+    ensures well_formed { IfOk result WellFormed }
+    ensures fault { IfErr result (IsFirstFault named) }
+    ensures refused { IfErr result (λ fault. WellFormed named → fault ≡ fault_of.NoMemory) }
+{
+    match first {
+        None => Ok(Checked::new(named)),
+        Some(fault) => {
+            discard(named);
+            Err(CheckFault::At(fault.side, fault.kind, fault.name))
+        }
+    }
+}
+
+/// Checks the names, types and arities of a domain and a problem. Gives the well-formed pair, or the first fault:
+/// those of the domain come before those of the problem, and in a file the one at the smallest position is the first.
+pub fn check(alloc: Global, domain: Domain, problem: Problem) -> Result<Checked, CheckFault>
+    requires few_constants { length domain.constants ≤ 2 ^ 30 }
+    requires few_objects { length problem.objects ≤ 2 ^ 30 }
+    requires few_actions { length domain.schemas ≤ 2 ^ 30 }
+    ensures pair { IfOk result (λ checked. checked ≡ record { domain = domain; problem = problem }) }
+    ensures well_formed { IfOk result WellFormed }
+    ensures fault { IfErr result (IsFirstFault (record { domain = domain; problem = problem })) }
+    ensures refused { IfErr result (λ fault. WellFormed (record { domain = domain; problem = problem }) → fault ≡ fault_of.NoMemory) }
+{
+    let named = Named::new(alloc, domain, problem)?;
+    match first_of(alloc, &named) {
+        Ok(first) => answer(named, first),
+        Err(_) => {
+            discard(named);
+            Err(CheckFault::NoMemory)
+        }
+    }
+}

@@ -1,0 +1,27 @@
+//! The names, types and arities of a domain and a problem: the well-formed pair, or the first fault.
+#![tactic(auto)]
+
+mod atoms;
+mod checked;
+mod checking;
+mod conditions;
+mod cycles;
+mod declarations;
+mod entries;
+mod faults;
+mod first;
+mod laws;
+mod lists;
+mod named;
+mod numbers;
+mod pairs;
+mod seen;
+
+pub use checked::Checked;
+pub use checking::check;
+pub use faults::{CheckFault, CheckKind, Side};
+pub use laws::{descent_is_tested, faultless_pairs_are_well_formed, first_fault_is_first};
+pub use pairs::Pair;
+
+#[cfg(test)]
+mod tests;

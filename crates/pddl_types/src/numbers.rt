@@ -1,0 +1,64 @@
+//! Names with numbers, found by hash.
+
+ghost use Rattle.std.specs.Prelude.{◌≡◌, [], IfOk, OnOk, OnErr, map};
+ghost use Rattle.pddl_types.specs.Numberings.{number_in, numbered, numbered_from, with_number};
+
+use indexmap::IndexMap;
+use num_ends::NoMemory;
+use pddl_terms::Name;
+use std::alloc::Global;
+use std::marker::Model;
+
+/// Names, each with a number.
+#[derive(Drop)]
+pub(crate) struct Numbers {
+    places: IndexMap<Vec<u8>, usize>,
+}
+
+impl Model for Numbers {
+    ghost use Rattle.std.specs.Prelude.{List, ℕ, map};
+
+    ghost Value = { List (List ℕ × ℕ) };
+
+    ghost view = { λ n. map (λ e. (e.0.items, e.1)) n.places.entries };
+}
+
+impl Numbers {
+    pub(crate) fn new(alloc: Global) -> Numbers
+        ensures { result ≡ [] }
+    {
+        Numbers {
+            places: IndexMap::new(alloc),
+        }
+    }
+
+    /// The number of a name.
+    pub(crate) fn number(&self, text: &[u8]) -> Option<usize>
+        ensures { result ≡ number_in text.now self.now }
+    {
+        self.places.get(text).copied()
+    }
+
+    /// Adds a name; one that is there keeps its number.
+    pub(crate) fn add(&mut self, alloc: Global, text: &[u8], number: usize) -> Result<(), NoMemory>
+        ensures { OnOk result (self.new ≡ with_number self.old text.now number) }
+    {
+        if self.number(text).is_some() {
+            return Ok(());
+        }
+        let key = Vec::from_slice(alloc, text)?;
+        self.places.insert(key, number)?;
+        Ok(())
+    }
+}
+
+/// The names with the numbers of their first places.
+pub(crate) fn numbered(alloc: Global, names: &[&Name]) -> Result<Numbers, NoMemory>
+    ensures { IfOk result (λ numbers. numbers ≡ numbered (map (λ n. n.now) names.now)) }
+{
+    let mut numbers = Numbers::new(alloc);
+    'each: for (number, name) in names.iter().enumerate() {
+        numbers.add(alloc, name.text.as_slice(), number)?;
+    }
+    Ok(numbers)
+}
