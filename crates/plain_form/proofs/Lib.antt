@@ -1,0 +1,5 @@
+pub mod Tested
+pub mod Apart
+pub mod Declared
+pub mod Found
+pub mod Sound

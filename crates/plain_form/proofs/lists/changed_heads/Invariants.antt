@@ -1,0 +1,7 @@
+use Rattle.std.proofs.Common.{◌≡◌, ◌++◌, drop, map}
+use Rattle.std.specs.Prelude.{flat_map}
+use Rattle.pddl_types.specs.Checks.{changed_by}
+use Rattle.plain_form.proofs.lists.changed_heads.Given as goal
+
+abbrev pub invariant-each : goal.invariant-each
+invariant-each l = map (λ n. n.now) l.names.items ++ flat_map changed_by (drop l.effect-index l.effects) ≡ flat_map changed_by l.effects
