@@ -1,5 +1,5 @@
+pub mod Accepted
 pub mod Ends
-pub mod Faults
-pub mod FrontOf
-pub mod OfJob
-pub mod Relaxation
+pub mod FewSteps
+pub mod Lifted
+pub mod LeastBox

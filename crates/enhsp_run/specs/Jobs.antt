@@ -1,27 +1,38 @@
--- What the words ask for.
-use Rattle.std.specs.Prelude.{ℕ, ◌≡◌, ◌≢◌, List, [], ◌∷◌, Some, None}
-use Rattle.enhsp_words.specs.Jobs.{job_of}
-use Rattle.enhsp_words.specs.declared.job.Command.TheVariants.{Relax}
+-- What the words ask for, and which files it needs.
+use Rattle.std.specs.Prelude.{ℕ, Bool, true, false, List, [], ◌∷◌}
+use Rattle.enhsp_words.specs.declared.job.Command.{Command}
+use Rattle.enhsp_words.specs.declared.job.Command.TheVariants as command
 use Rattle.enhsp_words.specs.declared.job.Job.{Job}
 
--- the words are a job of `relax` on these two files
-pub record IsJob (words : List (List ℕ)) (domain problem : List ℕ) : Type 0 where
-  pub job : Job
-  pub read : job_of words ≡ Some job
-  pub command : job.command ≡ Relax
-  pub domain_file : job.domain ≡ domain
-  pub problem_file : job.problem ≡ problem
+-- the names of the files that a command reads, in their order; of a command that isn't there yet none is read
+abbrev pub needed_files : Command → Job → List (List ℕ)
+needed_files command.Relax job = job.domain ∷ job.problem ∷ []
+needed_files command.Validate job = job.domain ∷ job.problem ∷ job.third ∷ []
+needed_files command.Plan job = []
+needed_files command.Certify job = []
+needed_files command.Generate job = []
+needed_files command.Upgrade job = []
+needed_files command.Adl job = []
+needed_files command.Expand job = []
+needed_files command.Optimal job = []
+needed_files command.CertifyCost job = []
+needed_files command.Steps job = []
+needed_files command.Look job = []
 
--- the words are a job of a command that isn't there yet
-pub record IsOtherJob (words : List (List ℕ)) : Type 0 where
-  pub job : Job
-  pub read : job_of words ≡ Some job
-  pub command : job.command ≢ Relax
+abbrev pub files_of : Job → List (List ℕ)
+files_of job = needed_files job.command job
 
--- the names of a job's files, in the order in which they are read
-abbrev pub files_of : List ℕ → List ℕ → List (List ℕ)
-files_of domain problem = domain ∷ problem ∷ []
-
--- the words are no job
-abbrev pub IsNoJob : List (List ℕ) → Type 0
-IsNoJob words = job_of words ≡ None
+-- the commands that are there
+abbrev pub is_built : Command → Bool
+is_built command.Relax = true
+is_built command.Validate = true
+is_built command.Plan = false
+is_built command.Certify = false
+is_built command.Generate = false
+is_built command.Upgrade = false
+is_built command.Adl = false
+is_built command.Expand = false
+is_built command.Optimal = false
+is_built command.CertifyCost = false
+is_built command.Steps = false
+is_built command.Look = false

@@ -1,14 +1,17 @@
 //! The answers of the program, their texts and their statuses.
 
-ghost use Rattle.std.specs.Prelude.{◌≡◌, ◌++◌, codes, OnOk, IfOk};
+ghost use Rattle.std.specs.Prelude.{◌≡◌, ◌++◌, OnOk, IfOk};
 ghost use Rattle.enhsp_run.specs.Answers.{text_of, status_of};
 ghost use Rattle.box_model.specs.Boxes.{IsBoxOf};
 ghost use Rattle.enhsp_run.specs.Written.{IsWritable};
 
+use crate::verdict::{verdict_status, write_verdict};
 use box_model::StateBox;
 use cert_text::write_box;
 use ground_task::Task;
 use num_ends::{List, NoMemory, Text};
+use pair_text::{Refusal, write_refusal};
+use plan_validator::Verdict;
 use std::alloc::Global;
 
 /// What a call answers where there was memory and the output took the text.
@@ -16,8 +19,10 @@ use std::alloc::Global;
 pub enum Answer {
     /// The least closed box above the first state of the task.
     Relaxed(Task, StateBox),
-    /// The files have a form that isn't read.
-    Unbuilt,
+    /// The verdict on a plan of so many steps.
+    Validated(Verdict, u32),
+    /// The files or the command aren't accepted.
+    Refused(Refusal),
     /// The words are no job.
     Usage,
     /// The file of this name could not be read.
@@ -55,7 +60,8 @@ fn write_answer(alloc: Global, answer: &Answer, out: &mut List<u8>) -> Result<()
 {
     match answer {
         Answer::Relaxed(task, part) => write_relaxed(alloc, task, part, out),
-        Answer::Unbuilt => out.extend_from_slice(b"REFUSED UNBUILT\n"),
+        Answer::Validated(verdict, steps) => write_verdict(*verdict, *steps, out),
+        Answer::Refused(refusal) => write_refusal(alloc, refusal, out),
         Answer::Usage => out.extend_from_slice(b"USAGE\n"),
         Answer::FileFault(name) => write_fault(name, out),
     }
@@ -85,7 +91,8 @@ pub fn status(answer: &Answer) -> u8
 {
     match answer {
         Answer::Relaxed(task, part) => status_of_box(task, part),
-        Answer::Unbuilt => 4,
+        Answer::Validated(verdict, _) => verdict_status(*verdict),
+        Answer::Refused(_) => 4,
         Answer::Usage => 5,
         Answer::FileFault(_) => 6,
     }

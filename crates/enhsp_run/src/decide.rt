@@ -1,104 +1,56 @@
 //! Which answer a call gives.
 
-ghost use Rattle.std.specs.Prelude.{◌≡◌, ◌+◌, ◌≤◌, ◌⊎◌, ℕ, List, [], ◌∷◌, map, string_bytes, take, None, IfOk, IfSome, IfNone, IsSomeAnd};
-ghost use Rattle.edge_io.specs.Causes.{Rose, counted};
-ghost use Rattle.edge_io.specs.Folder.{bytes_named};
-ghost use Rattle.ground_task.specs.Plain.{IsPlain};
-ghost use Rattle.ground_task.specs.Valid.{IsValid};
-ghost use Rattle.enhsp_run.specs.Answers.{Answers, AreOf, SpellsTask, SpellsNoTask};
-ghost use Rattle.enhsp_run.specs.Reading.{IsFrontOf, IsForJob, IsOfBytes, IsOfTask, IsRight};
+ghost use Rattle.std.specs.Prelude.{◌≡◌, ◌<◌, ◌≤◌, true, false, map, length, string_bytes, All, IfOk, IfSome, IfNone};
+ghost use Rattle.enhsp_run.specs.Jobs.{files_of, is_built, needed_files};
+ghost use Rattle.enhsp_run.specs.Answers.{Answers, AnswersCommand, most_bytes, place_of};
+ghost use Rattle.enhsp_run.specs.Reading.{IsOfCommand, IsOfTexts, IsOfThree};
 
 use crate::answer::Answer;
-use edge_io::{Files, ReadFault, read_whole};
+use crate::relaxation::relaxed_pair;
+use crate::validation::validated_plan;
+use edge_io::Files;
 use enhsp_words::{Command, Job, WordsFault, read_words};
-use ground_task::{RawTask, Task, TaskFault};
-use narrow_text::read_pair;
 use num_ends::{List, NoMemory, Text};
-use relax_plain::least_box;
+use pair_text::{PairFault, Refusal, Source, read_pair};
+use pddl_types::Checked;
 use std::alloc::Global;
+use whole_files::{Gathered, read_all};
 
 /// The most bytes that a domain or a problem file may have.
 const MOST_BYTES: u32 = 1_048_576;
 
-/// Reads the named file, to one byte more than the limit at most. `None`: it isn't there, or a call failed.
-fn read_file<F: Files>(
-    alloc: Global,
-    files: &mut F,
-    name: &[u8],
-) -> Result<Option<Vec<u8>>, NoMemory>
-    ensures same_folder { F.told files.new ≡ F.told files.old }
-    ensures next_begun { F.begun files.new ≡ counted (F.begun files.old) }
-    ensures new_mark { F.mark files.new ≡ F.faults files.old }
-    ensures later { F.faults files.old ≤ F.faults files.new }
-    ensures kept { IfOk result (λ read. IfSome read (λ _. F.faults files.new ≡ F.faults files.old)) }
-    ensures read { IfOk result (λ read. IfSome read (λ bytes. IfSome (F.told files.old) (λ folder. IsFrontOf folder name.now bytes.items))) }
-    ensures fault { IfOk result (λ read. IfNone read (Rose (F.faults files.old) (F.faults files.new)
-        ⊎ IsSomeAnd (F.told files.old) (λ folder. bytes_named folder name.now ≡ None))) }
+/// The names of the files that a job needs, in the order in which they are read. `None`: its command isn't there yet.
+fn names_of(alloc: Global, job: Job) -> Result<Option<List<Text>>, NoMemory>
+    ensures some { IfOk result (λ found. IfSome found (λ names. (names ≡ files_of job) × (is_built job.command ≡ true))) }
+    ensures few { IfOk result (λ found. IfSome found (λ names. length names ≤ 3)) }
+    ensures none { IfOk result (λ found. IfNone found (is_built job.command ≡ false)) }
 {
-    let Ok(()) = files.begin(name) else {
-        return Ok(None);
-    };
-    match read_whole(alloc, files, MOST_BYTES) {
-        Ok(bytes) => Ok(Some(bytes)),
-        Err(ReadFault::Failed) => Ok(None),
-        Err(ReadFault::NoMemory) => Err(NoMemory),
+    let mut names = List::new(alloc);
+    match job.command {
+        Command::Relax => {
+            names.push(job.domain)?;
+            names.push(job.problem)?;
+            Ok(Some(names))
+        }
+        Command::Validate => {
+            names.push(job.domain)?;
+            names.push(job.problem)?;
+            names.push(job.third)?;
+            Ok(Some(names))
+        }
+        _ => Ok(None),
     }
 }
 
-/// The places of a task of one fluent without decimal places.
-fn no_places(alloc: Global) -> Result<List<u8>, NoMemory>
-    ensures { IfOk result (λ places. places ≡ 0 ∷ []) }
+/// The file at a place among those of a job.
+fn source_at(place: u32) -> Source
+    requires { place < 3 }
+    ensures { place_of result ≡ place }
 {
-    let mut places = List::new(alloc);
-    places.push(0)?;
-    Ok(places)
-}
-
-/// The task of data of the form.
-fn with_no_places(alloc: Global, raw: RawTask) -> Result<Task, NoMemory>
-    requires valid { IsValid raw }
-    requires plain { IsPlain raw (0 ∷ []) }
-    ensures { IfOk result (λ task. task ≡ record { raw = raw; places = 0 ∷ [] }) }
-{
-    match Task::with_places(alloc, raw, no_places(alloc)?) {
-        Ok(task) => Ok(task),
-        Err(TaskFault::NoMemory) => Err(NoMemory),
-        Err(TaskFault::Range(_)) => unreachable!(),
-    }
-}
-
-/// The data that the bytes of the two files spell. `None`: they spell none of the form.
-fn data_of(alloc: Global, domain: &[u8], problem: &[u8]) -> Result<Option<RawTask>, NoMemory>
-    ensures some { IfOk result (λ read. IfSome read (SpellsTask domain.now problem.now)) }
-    ensures none { IfOk result (λ read. IfNone read (SpellsNoTask domain.now problem.now)) }
-    ensures valid { IfOk result (λ read. IfSome read IsValid) }
-    ensures plain { IfOk result (λ read. IfSome read (λ raw. IsPlain raw (0 ∷ []))) }
-{
-    if domain.len() > MOST_BYTES as usize || problem.len() > MOST_BYTES as usize {
-        return Ok(None);
-    }
-    match read_pair(alloc, domain, problem)? {
-        Some(raw) => Ok(Some(raw)),
-        None => Ok(None),
-    }
-}
-
-/// The relaxation of a task.
-fn relaxed(alloc: Global, task: Task) -> Result<Answer, NoMemory>
-    requires { IsPlain task.raw task.places }
-    ensures { IfOk result (IsOfTask task) }
-{
-    let part = least_box(alloc, &task, task.first())?;
-    Ok(Answer::Relaxed(task, part))
-}
-
-/// What the bytes of the two files are answered.
-fn of_bytes(alloc: Global, domain: &[u8], problem: &[u8]) -> Result<Answer, NoMemory>
-    ensures { IfOk result (IsOfBytes domain.now problem.now) }
-{
-    match data_of(alloc, domain, problem)? {
-        Some(raw) => relaxed(alloc, with_no_places(alloc, raw)?),
-        None => Ok(Answer::Unbuilt),
+    match place {
+        0 => Source::Domain,
+        1 => Source::Problem,
+        _ => Source::Plan,
     }
 }
 
@@ -108,45 +60,108 @@ fn file_fault(alloc: Global, name: &[u8]) -> Result<Answer, NoMemory>
     Ok(Answer::FileFault(Text::from_vec(Vec::from_slice(alloc, name)?)))
 }
 
-/// The answer to a `relax` job, read from its files.
-fn of_job<F: Files>(
+// Lets a checked pair go.
+fn discard(_checked: Checked) {}
+
+/// The relaxation of what the texts of a domain and a problem spell, or why there is none.
+fn relaxed_texts(alloc: Global, domain: &[u8], problem: &[u8]) -> Result<Answer, NoMemory>
+    requires small_domain { length domain.now ≤ most_bytes }
+    requires small_problem { length problem.now ≤ most_bytes }
+    ensures { IfOk result (IsOfTexts domain.now problem.now) }
+{
+    match read_pair(alloc, domain, problem) {
+        Ok(checked) => {
+            let answer = relaxed_pair(alloc, &checked);
+            discard(checked);
+            answer
+        }
+        Err(PairFault::Refused(refusal)) => Ok(Answer::Refused(refusal)),
+        Err(PairFault::NoMemory) => Err(NoMemory),
+    }
+}
+
+/// The verdict on a plan of what the texts of a domain and a problem spell, or why there is none.
+fn validated_texts(
     alloc: Global,
-    domain_name: &[u8],
-    problem_name: &[u8],
+    domain: &[u8],
+    problem: &[u8],
+    plan: &[u8],
+) -> Result<Answer, NoMemory>
+    requires small_domain { length domain.now ≤ most_bytes }
+    requires small_problem { length problem.now ≤ most_bytes }
+    requires small_plan { length plan.now ≤ most_bytes }
+    ensures { IfOk result (IsOfThree domain.now problem.now plan.now) }
+{
+    match read_pair(alloc, domain, problem) {
+        Ok(checked) => {
+            let answer = validated_plan(alloc, &checked, plan);
+            discard(checked);
+            answer
+        }
+        Err(PairFault::Refused(refusal)) => Ok(Answer::Refused(refusal)),
+        Err(PairFault::NoMemory) => Err(NoMemory),
+    }
+}
+
+/// What the texts of a command's files are answered.
+fn of_texts(alloc: Global, command: Command, texts: &[Text]) -> Result<Answer, NoMemory>
+    requires built { is_built command ≡ true }
+    requires needed { (job : Job) × (length texts.now ≡ length (needed_files command job)) }
+    requires small { All (λ text. length text ≤ most_bytes) texts.now }
+    ensures { IfOk result (IsOfCommand command texts.now) }
+{
+    match command {
+        Command::Relax => relaxed_texts(alloc, texts[0].as_slice(), texts[1].as_slice()),
+        Command::Validate => validated_texts(
+            alloc,
+            texts[0].as_slice(),
+            texts[1].as_slice(),
+            texts[2].as_slice(),
+        ),
+        _ => unreachable!(),
+    }
+}
+
+/// The answer to a command whose files have these names.
+fn of_names<F: Files>(
+    alloc: Global,
+    command: Command,
+    names: &[Text],
     files: &mut F,
 ) -> Result<Answer, NoMemory>
-    ensures { IfOk result (IsRight (record {
+    requires built { is_built command ≡ true }
+    requires needed { (job : Job) × (needed_files command job ≡ names.now) }
+    ensures { IfOk result (AnswersCommand (record {
       told = F.told files.old;
       faults_before = F.faults files.old;
       faults_after = F.faults files.new;
       begun_before = F.begun files.old;
       begun_after = F.begun files.new;
       mark_after = F.mark files.new;
-    }) domain_name.now problem_name.now) }
+    }) command names.now) }
 {
-    match read_file(alloc, files, domain_name)? {
-        None => file_fault(alloc, domain_name),
-        Some(domain) => match read_file(alloc, files, problem_name)? {
-            None => file_fault(alloc, problem_name),
-            Some(problem) => of_bytes(alloc, &domain, &problem),
-        },
+    match read_all(alloc, files, names, MOST_BYTES)? {
+        Gathered::Texts(texts) => of_texts(alloc, command, texts.as_slice()),
+        Gathered::Missing(place) => file_fault(alloc, names[place as usize].as_slice()),
+        Gathered::TooLarge(place) => Ok(Answer::Refused(Refusal::TooLarge(source_at(place)))),
     }
 }
 
 /// The answer to a job. A command that isn't there yet is answered before a file is begun.
-fn of_words<F: Files>(alloc: Global, job: &Job, files: &mut F) -> Result<Answer, NoMemory>
-    ensures { IfOk result (IsForJob (record {
+fn of_job<F: Files>(alloc: Global, job: Job, files: &mut F) -> Result<Answer, NoMemory>
+    ensures { IfOk result (AnswersCommand (record {
       told = F.told files.old;
       faults_before = F.faults files.old;
       faults_after = F.faults files.new;
       begun_before = F.begun files.old;
       begun_after = F.begun files.new;
       mark_after = F.mark files.new;
-    }) job.now) }
+    }) job.command (files_of job)) }
 {
-    match job.command {
-        Command::Relax => of_job(alloc, job.domain.as_slice(), job.problem.as_slice(), files),
-        _ => Ok(Answer::Unbuilt),
+    let command = job.command;
+    match names_of(alloc, job)? {
+        Some(names) => of_names(alloc, command, names.as_slice(), files),
+        None => Ok(Answer::Refused(Refusal::Unbuilt)),
     }
 }
 
@@ -164,6 +179,6 @@ pub fn answer<F: Files>(alloc: Global, words: &[String], files: &mut F) -> Resul
     match read_words(alloc, words) {
         Err(WordsFault::NoMemory) => Err(NoMemory),
         Err(WordsFault::Usage) => Ok(Answer::Usage),
-        Ok(job) => of_words(alloc, &job, files),
+        Ok(job) => of_job(alloc, job, files),
     }
 }

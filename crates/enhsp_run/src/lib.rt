@@ -3,9 +3,12 @@
 
 mod answer;
 mod decide;
+mod relaxation;
 mod run;
 #[cfg(test)]
 mod tests;
+mod validation;
+mod verdict;
 
 pub use answer::Answer;
 pub use run::{Ended, run_alone};

@@ -1,9 +1,10 @@
 //! The top call.
 
-ghost use Rattle.std.specs.Prelude.{◌≡◌, ◌≤◌, ◌⊎◌, ℕ, List, [], ◌∷◌, map, string_bytes, take, is_ok, IfOk};
+ghost use Rattle.std.specs.Prelude.{◌≡◌, ◌<◌, ◌≤◌, ◌⊎◌, ℕ, List, [], ◌∷◌, length, map, string_bytes, take, is_ok, IfOk};
 ghost use Rattle.std.specs.Io.KnownBytes.{Appends};
 ghost use Rattle.edge_io.specs.Causes.{Rose};
-ghost use Rattle.enhsp_run.specs.Answers.{IsAnswered, IsAccepted, IsOneOf, final_status, memory_text};
+ghost use Rattle.enhsp_words.specs.declared.job.Job.{Job};
+ghost use Rattle.enhsp_run.specs.Answers.{IsAnswered, IsAccepted, IsOneOf, final_status, memory_text, statuses_of};
 
 use crate::answer::{status, text};
 use crate::decide::answer;
@@ -14,7 +15,7 @@ use std::alloc::Global;
 /// How a call ended.
 #[derive(Clone, Copy, Debug, PartialEq, Eq)]
 pub struct Ended {
-    /// The status of the process: 0 `MET`, 1 `MISSED`, 4 `REFUSED`, 5 `USAGE`, 6 `FILE FAULT`,
+    /// The status of the process: 0 `MET` or `VALID`, 1 `MISSED` or `INVALID`, 3 `OVERFLOW`, 4 `REFUSED`, 5 `USAGE`, 6 `FILE FAULT`,
     /// 7 a fault of the output, 8 no memory.
     pub status: u8,
 }
@@ -69,7 +70,7 @@ pub fn run_alone<F: Files, S: Sink>(
     files: &mut F,
     sink: &mut S,
 ) -> Ended
-    ensures known { IsOneOf result.status (0 ∷ 1 ∷ 4 ∷ 5 ∷ 6 ∷ 7 ∷ 8 ∷ []) }
+    ensures known { IsOneOf result.status (0 ∷ 1 ∷ 3 ∷ 4 ∷ 5 ∷ 6 ∷ 7 ∷ 8 ∷ []) }
 
     // The bytes written are the whole text of an answer that may be given.
     ensures answered { result.status ≤ 6 → (text : List ℕ)
@@ -84,14 +85,14 @@ pub fn run_alone<F: Files, S: Sink>(
         × Appends (S.written sink.old) (S.written sink.new) text
         × (S.faults sink.new ≡ S.faults sink.old) }
 
-    // A job with files of the form, without a fault of files or sink, gets its box.
-    ensures accepted { IsAccepted (F.told files.old) (map string_bytes words.now)
+    // A job against whose files no reason stands gets its answer, unless a fault of files or sink comes.
+    ensures accepted { (job : Job) → IsAccepted (F.told files.old) (map string_bytes words.now) job
         → (Rose (F.faults files.old) (F.faults files.new) → ⊥) → (Rose (S.faults sink.old) (S.faults sink.new) → ⊥)
-        → IsOneOf result.status (0 ∷ 1 ∷ 8 ∷ []) }
+        → IsOneOf result.status (8 ∷ statuses_of job.command) }
 
-    // A fault of the sink leaves a front of the text of an answer, or of the line on memory.
+    // A fault of the sink leaves less than the text of an answer, or than the line on memory: a front of it.
     ensures sink_fault { result.status ≡ 7 → Rose (S.faults sink.old) (S.faults sink.new) }
-    ensures cut { result.status ≡ 7 → (status : ℕ) × (text : List ℕ) × (n : ℕ)
+    ensures cut { result.status ≡ 7 → (status : ℕ) × (text : List ℕ) × (n : ℕ) × (n < length text)
         × (IsAnswered (record {
           told = F.told files.old;
           faults_before = F.faults files.old;
@@ -102,7 +103,8 @@ pub fn run_alone<F: Files, S: Sink>(
         }) (map string_bytes words.now) status text ⊎ (text ≡ memory_text))
         × Appends (S.written sink.old) (S.written sink.new) (take n text) }
 
-    ensures no_memory { result.status ≡ 8 → Appends (S.written sink.old) (S.written sink.new) memory_text }
+    ensures no_memory { result.status ≡ 8 → Appends (S.written sink.old) (S.written sink.new) memory_text
+        × (S.faults sink.new ≡ S.faults sink.old) }
 {
     match compose(alloc, words, files) {
         Ok(made) => end_with(made.status, write_whole(sink, made.text.as_slice())),

@@ -1,8 +1,8 @@
 -- What reading files gives.
-use Rattle.std.specs.Prelude.{ℕ, ◌≡◌, ◌<◌, ◌≤◌, ◌⊎◌, List, Option, Some, None, All, length, map, slice_get, IfSome, IsSomeAnd}
+use Rattle.std.specs.Prelude.{ℕ, ◌≡◌, ◌<◌, ◌≤◌, ◌⊎◌, List, Option, Some, None, All, length, map, IfSome, IsSomeAnd}
 use Rattle.edge_io.specs.Causes.{Rose}
 use Rattle.edge_io.specs.Folder.{Folder, bytes_named}
-use Rattle.whole_files.specs.Seen.{Seen, ReadsWell, AreTexts, IsMissing, IsTooLarge}
+use Rattle.whole_files.specs.Seen.{Seen, ReadsWell, IsMissing, IsTooLarge}
 use Rattle.whole_files.specs.declared.gathered.Gathered.{Gathered}
 use Rattle.whole_files.specs.declared.gathered.Gathered.TheVariants as gathered
 use Rattle.whole_files.specs.declared.gathered.Once.{Once}

@@ -1,6 +1,6 @@
 //! The calls that read.
 
-ghost use Rattle.std.specs.Prelude.{◌≡◌, ◌≤◌, ◌<◌, ◌-◌, ◌^◌, length, IfOk};
+ghost use Rattle.std.specs.Prelude.{◌≡◌, ◌≤◌, ◌<◌, ◌^◌, length, IfOk};
 ghost use Rattle.edge_io.specs.Causes.{counted};
 ghost use Rattle.whole_files.specs.Gathered.{IsCut, IsGathered, IsOnce};
 
@@ -26,7 +26,6 @@ pub(crate) fn read_once<F: Files>(
     name: &[u8],
     limit: u32,
 ) -> Result<Once, NoMemory>
-    requires { limit < 2 ^ 32 - 1 }
     ensures same_folder { F.told files.new ≡ F.told files.old }
     ensures next_begun { F.begun files.new ≡ counted (F.begun files.old) }
     ensures new_mark { F.mark files.new ≡ F.faults files.old }
@@ -51,8 +50,7 @@ pub fn read_all<F: Files>(
     names: &[Text],
     limit: u32,
 ) -> Result<Gathered, NoMemory>
-    requires few { length names.now < 2 ^ 32 }
-    requires a_limit { limit < 2 ^ 32 - 1 }
+    requires { length names.now < 2 ^ 32 }
     ensures { IfOk result (IsGathered limit (record {
       told = F.told files.old;
       faults_before = F.faults files.old;

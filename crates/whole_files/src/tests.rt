@@ -1,5 +1,7 @@
 //! Files in memory, read whole.
 
+ghost use Rattle.std.specs.Prelude.{◌≡◌, length, IfOk};
+
 use crate::{Gathered, read_all};
 use edge_io::MemoryFiles;
 use num_ends::{List, Text};
@@ -10,7 +12,9 @@ fn text_of(alloc: Global, text: &str) -> Result<Text, AllocError> {
     Ok(Text::from_vec(Vec::from_slice(alloc, text.as_bytes())?))
 }
 
-fn names_of(alloc: Global) -> Result<Vec<Text>, AllocError> {
+fn names_of(alloc: Global) -> Result<Vec<Text>, AllocError>
+    ensures { IfOk result (λ names. length names.items ≡ 2) }
+{
     let mut names = Vec::new(alloc);
     names.push(text_of(alloc, "a")?)?;
     names.push(text_of(alloc, "b")?)?;

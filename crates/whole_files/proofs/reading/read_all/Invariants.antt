@@ -1,4 +1,4 @@
-use Rattle.std.proofs.Common.{◌≡◌, ◌≤◌, ◌-◌, take, length, map, Some, All, IfSome}
+use Rattle.std.proofs.Common.{◌≡◌, ◌≤◌, take, length, map, Some, All, IfSome}
 use Rattle.edge_io.specs.Folder.{bytes_named}
 use Rattle.whole_files.specs.Seen.{HasBegun}
 use Rattle.whole_files.proofs.reading.read_all.Given as goal
