@@ -8,7 +8,7 @@ use Rattle.num_ends.specs.Decimal.{Decimal, InRange, aligned, number_at, sum_of,
 use Rattle.num_ends.specs.declared.faults.Range.{Range}
 use Rattle.num_ends.specs.declared.ends.End.TheVariants.{NegInf, Excl, Incl, PosInf}
 use Rattle.num_ends.specs.Arithmetic.{top_number, bottom_number, top, bottom, outward_lower, outward_upper}
-use Rattle.num_ends.specs.Exact.{IsKnown, end_of}
+use Rattle.num_ends.specs.Inside.{IsKnown, end_of}
 use Rattle.num_ends.proofs.DecimalOrder.{no_place_more}
 use Rattle.num_ends.proofs.Operations.{number_sign_back}
 

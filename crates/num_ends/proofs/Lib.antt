@@ -1,8 +1,10 @@
 pub mod DecimalOrder
 pub mod OrderSteps
 pub mod SamePlaces
+pub mod Ranges
 pub mod Zeros
 pub mod Operations
+pub mod Trimmed
 pub mod EndProducts
 pub mod Mirrors
 pub mod Known

@@ -9,7 +9,8 @@ use Rattle.std.proofs.lemmas.Bool.{cases_lt}
 use Rattle.std.proofs.lemmas.Bool.Decides.{nat_tests}
 use Rattle.num_ends.specs.Decimal.{Decimal, IsDec, trimmed, without_zeros}
 use Rattle.num_ends.specs.Texts.{IsNumeral}
-use Rattle.num_ends.specs.Reading.{NoDigitFirst, NoMinusFirst, IsCut, IsTail, IsParts, IsReading, decimal_of}
+use Rattle.num_ends.specs.Inside.{NoDigitFirst, NoMinusFirst, IsCut, IsTail, IsParts, decimal_of}
+use Rattle.num_ends.specs.Reading.{IsReading}
 use Rattle.num_ends.specs.declared.faults.NumFault.TheVariants.{TooManyPlaces, Range}
 use Rattle.num_ends.proofs.Zeros.{zero_dropped, digit_kept, negative_zeros}
 

@@ -14,12 +14,12 @@ use Rattle.num_ends.proofs.DecimalOrder.{up_scaled, scaled_lt, scaled_le, scaled
 parts_sum : (x y : ℤ) → up (x +ℤ y) + (down x + down y) ≡ down (x +ℤ y) + (up x + up y)
 parts_sum x y = omega (arith, ints)
 
-scaled_sum : (x y : ℤ) (k : ℕ) → (x +ℤ y) *ℤ pos k ≡ x *ℤ pos k +ℤ y *ℤ pos k
+pub scaled_sum : (x y : ℤ) (k : ℕ) → (x +ℤ y) *ℤ pos k ≡ x *ℤ pos k +ℤ y *ℤ pos k
 scaled_sum x y k =
     same_in ((x +ℤ y) *ℤ pos k) (x *ℤ pos k +ℤ y *ℤ pos k)
     (omega (arith, up_scaled (x +ℤ y) k, up_scaled x k, up_scaled y k, ap (λ (n : ℕ). n * k) (parts_sum x y), parts_sum (x *ℤ pos k) (y *ℤ pos k)))
 
-sum_at : (q : ℕ) (a b : Decimal) → a.p ≤ q → b.p ≤ q → number_at q (sum_of a b) ≡ number_at q a +ℤ number_at q b
+pub sum_at : (q : ℕ) (a b : Decimal) → a.p ≤ q → b.p ≤ q → number_at q (sum_of a b) ≡ number_at q a +ℤ number_at q b
 sum_at q a b h k =
     let c = max a.p b.p in
     scaled_sum (number_at c a) (number_at c b) (10 ^ (q - c))
@@ -96,7 +96,7 @@ most_negative a b =
 pub negative_twice : (a : Decimal) → negative_of (negative_of a) ≡ a
 negative_twice a = ap (λ (n : ℤ). record { n = n; p = a.p }) (neg_ℤ-neg_ℤ a.n)
 
-neg_product : (x y : ℤ) → neg_ℤ x *ℤ y ≡ neg_ℤ (x *ℤ y)
+pub neg_product : (x y : ℤ) → neg_ℤ x *ℤ y ≡ neg_ℤ (x *ℤ y)
 neg_product x (pos b) = neg_scaled x b
 neg_product (pos zero) (negsuc b) = rw (zero-mul (suc b)) refl
 neg_product (pos (suc a)) (negsuc b) = sym (neg_ℤ-neg_ℤ (pos (suc a * suc b)))

@@ -176,7 +176,7 @@ outward_upper_places q (Incl d) h =
     ]
 outward_upper_places q PosInf h = tt
 
-end_at_places : (q : ℕ) (e : End) → HasPlaces q (end_at q e)
+pub end_at_places : (q : ℕ) (e : End) → HasPlaces q (end_at q e)
 end_at_places q NegInf = tt
 end_at_places q (Excl d) = refl
 end_at_places q (Incl d) = refl

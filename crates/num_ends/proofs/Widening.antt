@@ -10,7 +10,7 @@ use Rattle.num_ends.specs.Laws.{PlacesUpTo, BothPlaces, FitsLower, FitsUpper}
 use Rattle.num_ends.proofs.DecimalOrder.{less_is_most}
 use Rattle.num_ends.proofs.Members.{lower_covers_refl, lower_covers_trans, upper_covers_trans, lower_hull_second, upper_hull_second, inhabited_wider}
 use Rattle.num_ends.proofs.Operations.{sum_less_most, sum_most_less, sum_most, neg_scaled}
-use Rattle.num_ends.proofs.OutwardSteps.{aligned_least, aligned_most, lower_at_places}
+use Rattle.num_ends.proofs.OutwardSteps.{aligned_least, aligned_most, end_at_places, lower_at_places}
 use Rattle.num_ends.proofs.Clips.{EndLevel, level_of_places, lower_hull_outward, upper_hull_outward, hull_first, covers_mirrored, outward_mirrored}
 use Rattle.num_ends.proofs.Known.{lower_closed, lower_open, upper_closed, upper_open}
 use Rattle.std.proofs.Math.IntN.{neg_ℤ-+ℤ}
@@ -43,12 +43,6 @@ end_at_upper q NegInf h = (refl, refl)
 end_at_upper q (Excl d) h = (aligned_most q d h, aligned_least q d h)
 end_at_upper q (Incl d) h = (aligned_most q d h, aligned_least q d h)
 end_at_upper q PosInf h = (refl, refl)
-
-end_at_places : (q : ℕ) (e : End) → HasPlaces q (end_at q e)
-end_at_places q NegInf = tt
-end_at_places q (Excl d) = refl
-end_at_places q (Incl d) = refl
-end_at_places q PosInf = tt
 
 pub lower_at_wider : (q : ℕ) (x y : End) → end_places x ≤ q → end_places y ≤ q → lower_covers x y ≡ true → lower_covers (lower_at q x) (lower_at q y) ≡ true
 lower_at_wider q x y hx hy h =

@@ -5,4 +5,5 @@ pub mod Names
 pub mod Reading
 pub mod Laws
 pub mod Arithmetic
-pub mod Exact
+pub mod Inside
+pub mod Range

@@ -1,5 +1,5 @@
 -- The names of the language, and the texts of ground facts, fluents and actions.
-use Rattle.std.specs.Prelude.{ℕ, ◌≡◌, ◌++◌, Bool, false, ◌||◌, ◌&&◌, ◌==◌, List, [], ◌∷◌, codes, IsTrue, nat_le}
+use Rattle.std.specs.Prelude.{ℕ, ◌≡◌, ◌+◌, ◌++◌, Bool, false, ◌||◌, ◌&&◌, ◌==◌, List, [], ◌∷◌, codes, IsTrue, nat_le, if◌then◌else◌}
 use Rattle.std.specs.List.{list_all, join_with_byte}
 
 abbrev pub is_lower_letter : ℕ → Bool
@@ -15,6 +15,10 @@ begins_name b = is_lower_letter b || b == 95
 -- a letter, a digit, `-`, `_` or `.`
 abbrev pub continues_name : ℕ → Bool
 continues_name b = begins_name b || is_digit b || b == 45 || b == 46
+
+-- an upper-case letter as the lower-case one, and any other byte as it is
+abbrev pub folded : ℕ → ℕ
+folded b = if nat_le 65 b && nat_le b 90 then b + 32 else b
 
 -- a name, its letters folded to lower case
 abbrev pub is_name : List ℕ → Bool

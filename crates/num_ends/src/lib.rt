@@ -10,11 +10,10 @@ mod faults;
 mod interval;
 pub mod laws;
 mod lists;
+mod names;
 mod order;
 mod outward;
 mod read;
-#[cfg(test)]
-mod tests;
 mod write;
 
 pub use dec::Dec;
@@ -22,5 +21,6 @@ pub use ends::End;
 pub use faults::{NoMemory, NumFault, Range};
 pub use interval::Interval;
 pub use lists::{List, Text};
+pub use names::{folded, folded_text, is_name, is_name_folded};
 pub use read::read_dec;
 pub use write::write_dec;

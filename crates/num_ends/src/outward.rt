@@ -3,7 +3,7 @@
 ghost use Rattle.std.specs.Prelude.{◌≡◌, ◌+◌, ◌≤◌, ◌*ℤ◌, Bool, pos, int_lt, int_le};
 ghost use Rattle.num_ends.specs.Decimal.{Decimal, InRange, aligned, sum_of, product_of};
 ghost use Rattle.num_ends.specs.Arithmetic.{top_number, bottom_number, top, bottom, outward_lower, outward_upper};
-ghost use Rattle.num_ends.specs.Exact.{IsKnown, end_of};
+ghost use Rattle.num_ends.specs.Inside.{IsKnown, end_of};
 
 use crate::dec::Dec;
 use crate::ends::End;

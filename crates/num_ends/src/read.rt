@@ -5,7 +5,8 @@ ghost use Rattle.std.specs.Char.{IsAsciiDigit, digit_value};
 ghost use Rattle.std.specs.Str.Parse.{digits_value, digits_value_after};
 ghost use Rattle.num_ends.specs.Decimal.{Decimal, without_zeros};
 ghost use Rattle.num_ends.specs.Texts.{IsNumeral};
-ghost use Rattle.num_ends.specs.Reading.{NoDigitFirst, NoMinusFirst, IsCut, IsTail, IsParts, IsReading};
+ghost use Rattle.num_ends.specs.Inside.{NoDigitFirst, NoMinusFirst, IsCut, IsTail, IsParts};
+ghost use Rattle.num_ends.specs.Reading.{IsReading};
 
 use crate::dec::Dec;
 use crate::faults::NumFault;

@@ -68,6 +68,3 @@ impl OpenList {
         self.pairs.remove(&(h, node))
     }
 }
-
-#[cfg(test)]
-mod tests;

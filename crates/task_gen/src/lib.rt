@@ -83,6 +83,3 @@ fn push_links(text: &mut String, count: u32) -> Result<(), AllocError>
     }
     Ok(())
 }
-
-#[cfg(test)]
-mod tests;

@@ -1,5 +1,5 @@
 use Rattle.std.proofs.Common.{arith}
-use Rattle.num_ends.proofs.tests.combined.Goals as goal
+use Rattle.number_tests.proofs.intervals.combined.Goals as goal
 
 pub mul-requires : goal.mul-requires
 mul-requires g c =

@@ -1,7 +1,7 @@
 //! The texts of two sizes, written out.
 
-use super::*;
 use std::test::Fail;
+use task_gen::generate;
 
 const FIVE_LINES: &str = "(define (domain counters)
 (:types counter)

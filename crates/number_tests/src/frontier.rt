@@ -1,6 +1,6 @@
 //! The order of a few pairs.
 
-use super::*;
+use open_list::OpenList;
 use std::test::Fail;
 
 // What has this bound may move to another thread.
@@ -9,7 +9,7 @@ fn movable<T: Send>(value: T) -> T {
 }
 
 #[test]
-#[tactic(auto, using(crate::proofs::Pairs::members))]
+#[tactic(auto, using(open_list::proofs::Pairs::members))]
 fn pairs_in_order(rt: HostRuntime) -> Result<(), Fail> {
     let mut open = movable(OpenList::new(rt.alloc()));
     assert_eq!(rt; open.least(), None);
