@@ -8,9 +8,10 @@ use Rattle.bound_words.specs.declared.view.View.{View}
 use Rattle.bound_words.specs.declared.seat.RelaxSeat.{RelaxSeat}
 use Rattle.bound_words.specs.Rows.{Terms, IsPast, IsRow, IsRowPast, IsBetween, IsLeastClosed}
 use Rattle.bound_words.specs.Protocol.{Kept, from, fresh_view}
-use Rattle.bound_words.specs.Seats.{IsNewSeat, IsSingle}
+use Rattle.bound_words.specs.Seats.{IsNewSeat, IsFreshAt}
+use Rattle.bound_words.proofs.Rows.{row_past_refl}
 use Rattle.std.specs.List.{All}
-use Rattle.std.proofs.lemmas.List.{get_or_default, get_or_append_left, get_or_push, length_push}
+use Rattle.std.proofs.lemmas.List.{get_or_default}
 use Rattle.atomic_table.proofs.Lists.{at_index}
 
 elem_or : (l : List ℕ) (i x : ℕ) → get_elem? l i ≡ some x → get_or l i 0 ≡ x
@@ -60,6 +61,8 @@ module _ (t : Terms) (start : List ℕ) where
         few_begun = subst (λ (q : Mine). q.0.begun ≤ t.rules * q.0.sweeps) (sym me) (omega arith);
       };
       room = room ∙ is_row.length_is;
+      start_row = is_row;
+      between = subst (λ (q : Mine). IsBetween t start q.0.seen) (sym me) record { after_start = row_past_refl t start; before_closed = λ c closed past. past };
     };
     numbered = number;
     placed = ap (λ (q : Mine). q.0.places) me;
@@ -72,6 +75,9 @@ module _ (t : Terms) (start : List ℕ) where
     row_is k is = let len = k.is_row.length_is in ext_get_or 0 k.row row (len ∙ sym wide) (λ i h. let n : i + 2 ≡ suc (suc i) = omega arith in
         elem_or k.row i (get_or row i 0) (ap (λ (j : ℕ). get_elem? (k.done ∷ k.begun ∷ k.row) j) (sym n) ∙ (ap (λ (l : List ℕ). get_elem? l (i + 2)) (sym k.words_are ∙ is) ∙ each i (omega arith))))
 
+    pub closes_row : IsRow t row
+    closes_row = let k = last.1.0 in subst (IsRow t) (row_is k last.2) k.is_row
+
     pub closes_between : IsBetween t start row
     closes_between = let k = last.1.0 in subst (IsBetween t start) (row_is k last.2) k.between
 
@@ -81,15 +87,8 @@ module _ (t : Terms) (start : List ℕ) where
     pub closes_least : v.quiet ≡ true → IsLeastClosed t start row
     closes_least q = let k = last.1.0 in subst (IsLeastClosed t start) (row_is k last.2) record { closed = record { is_row = k.is_row; met = (k.each_view id v last.1.1).settled q }; between = k.between }
 
-pub all_single : (t : Terms) (start : List ℕ) (id : TableId) (l : List RelaxSeat) → ((i : ℕ) (s : RelaxSeat) → get_elem? l i ≡ some s → IsNewSeat t start id i s) → All (IsSingle t id 0) l
-all_single t start id l each k d h = let s : RelaxSeat = get_or l k d in single s k (each k s (at_index l k s h (get_or_default l k d s h)))
+pub all_new : (t : Terms) (start : List ℕ) (id : TableId) (l : List RelaxSeat) → ((i : ℕ) (s : RelaxSeat) → get_elem? l i ≡ some s → IsNewSeat t start id i s) → All (IsFreshAt t start id) l
+all_new t start id l each k d h = let s : RelaxSeat = get_or l k d in of_new s k (each k s (at_index l k s h (get_or_default l k d s h)))
   where
-    single : (s : RelaxSeat) (i : ℕ) → IsNewSeat t start id i s → IsSingle t id 0 s
-    single s i n = record { seat_at = n.seat_at; one_place = ap (λ (l : List ℕ). length l) n.placed; few_sweeps = let z = n.no_sweep in omega arith }
-
--- what holds of all of a list holds of its last item and of the others
-pub all_front : {A : Type 0} (P : A → Type 0) (l : List A) (x : A) → All P (l ++ x ∷ []) → All P l
-all_front P l x all k d h = subst P (get_or_append_left l (x ∷ []) d k h) (all k d (omega (arith, length_push l x)))
-
-pub all_last : {A : Type 0} (P : A → Type 0) (l : List A) (x : A) → All P (l ++ x ∷ []) → P x
-all_last P l x all = subst P (get_or_push l x x (length l) refl) (all (length l) x (omega (arith, length_push l x)))
+    of_new : (s : RelaxSeat) (i : ℕ) → IsNewSeat t start id i s → IsFreshAt t start id s
+    of_new s i n = record { seat_at = n.seat_at; one_place = ap (λ (l : List ℕ). length l) n.placed; sees_start = n.sees_start; no_sweep = n.no_sweep }

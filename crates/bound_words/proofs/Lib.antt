@@ -9,3 +9,4 @@ pub mod Turns
 pub mod SweepLaws
 pub mod Closing
 pub mod Distances
+pub mod Between

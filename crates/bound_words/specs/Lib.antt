@@ -4,6 +4,5 @@ pub mod Fitting
 pub mod Sweeps
 pub mod Turns
 pub mod Seats
-pub mod Samples
-pub mod SampleLaws
+pub mod Tables
 pub mod Distance

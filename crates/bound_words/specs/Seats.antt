@@ -1,9 +1,13 @@
 -- What a seat is to its table.
-use Rattle.std.specs.Prelude.{◌≡◌, ℕ, ◌≤◌, ◌∷◌, [], List, length, true}
+use Rattle.std.specs.Prelude.{◌≡◌, ℕ, ◌∷◌, [], List, length, true}
 use Rattle.atomic_table.specs.Seated.{TableId}
 use Rattle.bound_words.specs.declared.seat.RelaxSeat.{RelaxSeat}
-use Rattle.bound_words.specs.Rows.{Terms}
+use Rattle.bound_words.specs.Rows.{Terms, IsRow, IsBetween}
 use Rattle.bound_words.specs.Fitting.{IsFitting}
+
+-- the number under which it passes gates
+abbrev pub number_of : RelaxSeat → ℕ
+number_of s = s.number
 
 -- the furthest value of each word that the seat has seen
 abbrev pub seen_by : RelaxSeat → List ℕ
@@ -35,21 +39,25 @@ begun_at_end s = s.seat.me.0.latest
 abbrev pub IsQuiet : RelaxSeat → Type 0
 IsQuiet s = s.seat.me.0.quiet ≡ true
 
--- the seat is one of the table with this identity, for a system with these terms
-pub record IsSeatAt (t : Terms) (id : TableId) (s : RelaxSeat) : Type 0 where
+-- The seat is one of the table with this identity, for a system with these terms and this start row.
+-- What it has seen lies between the start row and the least closed row.
+pub record IsSeatAt (t : Terms) (start : List ℕ) (id : TableId) (s : RelaxSeat) : Type 0 where
   pub fitting : IsFitting t id s.seat
   pub room : length s.row.items ≡ t.words
+  pub start_row : IsRow t start
+  pub between : IsBetween t start (seen_by s)
 
 -- as `new` gives the seat with this number
 pub record IsNewSeat (t : Terms) (start : List ℕ) (id : TableId) (number : ℕ) (s : RelaxSeat) : Type 0 where
-  pub seat_at : IsSeatAt t id s
-  pub numbered : s.number ≡ number
+  pub seat_at : IsSeatAt t start id s
+  pub numbered : number_of s ≡ number
   pub placed : places_of s ≡ number ∷ []
   pub sees_start : seen_by s ≡ start
   pub no_sweep : sweeps_of s ≡ 0
 
--- the seat has one place, and made at most so many sweeps
-pub record IsSingle (t : Terms) (id : TableId) (most : ℕ) (s : RelaxSeat) : Type 0 where
-  pub seat_at : IsSeatAt t id s
+-- as `new` gives it, but for its number
+pub record IsFreshAt (t : Terms) (start : List ℕ) (id : TableId) (s : RelaxSeat) : Type 0 where
+  pub seat_at : IsSeatAt t start id s
   pub one_place : length (places_of s) ≡ 1
-  pub few_sweeps : sweeps_of s ≤ most
+  pub sees_start : seen_by s ≡ start
+  pub no_sweep : sweeps_of s ≡ 0

@@ -17,6 +17,3 @@ pub use seat::RelaxSeat;
 pub use swept::Swept;
 pub use system::{Direction, System};
 pub use table::RelaxTable;
-
-#[cfg(test)]
-mod tests;

@@ -67,6 +67,7 @@ pub(crate) fn gather<S: System>(
 )
     requires fits { IsFitting (S.terms table.shared.key.system.value) table.shared.table_id seat }
     requires row { length row.old ≡ (S.terms table.shared.key.system.value).words }
+    ensures is_row { IsRow (S.terms table.shared.key.system.value) row.new }
     ensures between { IsBetween (S.terms table.shared.key.system.value) table.shared.key.start.value row.new }
     ensures past { IsRowPast (S.terms table.shared.key.system.value) seat.me.0.seen row.new }
     ensures least { seat.me.0.quiet ≡ true → IsLeastClosed (S.terms table.shared.key.system.value) table.shared.key.start.value row.new }

@@ -1,6 +1,7 @@
 //! A sweep, between its two counts.
 
-ghost use Rattle.std.specs.Prelude.{◌≡◌, ◌≢◌, ℕ, ◌+◌, ◌^◌, ◌<◌, ◌≤◌, true, length};
+ghost use Rattle.edge_io.specs.declared.gate.Place.TheVariants as place_of;
+ghost use Rattle.std.specs.Prelude.{IsTrue, ◌≡◌, ◌≢◌, ℕ, ◌+◌, ◌^◌, ◌<◌, ◌≤◌, true, length};
 ghost use Rattle.bound_words.specs.Rows.{IsRow, IsRowPast, IsLeastClosed, IsWithinClosed};
 ghost use Rattle.bound_words.specs.Sweeps.{asking, AreSeen, IsMoved, swept_of};
 ghost use Rattle.bound_words.specs.Fitting.{IsFitting};
@@ -27,6 +28,7 @@ pub(crate) fn sweep_words<S: System, G: Gate>(
     requires fits { IsFitting (S.terms shared.now.key.system.value) shared.now.table_id seat.old }
     requires row { length row.old ≡ (S.terms shared.now.key.system.value).words }
     requires few { seat.old.me.0.sweeps < 2 ^ 26 }
+    requires gate { IsTrue (G.may_pass gate.now place_of.ClaimedSupporter number) }
     ensures fits { IsFitting (S.terms shared.now.key.system.value) shared.now.table_id seat.new }
     ensures same { (seat.new.me.0.places ≡ seat.old.me.0.places) × (seat.new.me.0.sweeps ≡ seat.old.me.0.sweeps + 1) }
     ensures loaded { let t = S.terms shared.now.key.system.value in IsRow t seat.new.me.0.loaded × IsRowPast t seat.old.me.0.seen seat.new.me.0.loaded × IsRowPast t seat.new.me.0.loaded seat.new.me.0.seen }

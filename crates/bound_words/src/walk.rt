@@ -1,6 +1,7 @@
 //! The two walks of a sweep: over the words, and over the rules.
 
-ghost use Rattle.std.specs.Prelude.{◌≡◌, ℕ, ◌+◌, ◌*◌, ◌<◌, ◌≤◌, List, [], length};
+ghost use Rattle.edge_io.specs.declared.gate.Place.TheVariants as place_of;
+ghost use Rattle.std.specs.Prelude.{IsTrue, ◌≡◌, ℕ, ◌+◌, ◌*◌, ◌<◌, ◌≤◌, List, [], length};
 ghost use Rattle.bound_words.specs.Rows.{IsRow};
 ghost use Rattle.bound_words.specs.Turns.{IsLoadedTo, IsRaisedFor};
 ghost use Rattle.bound_words.specs.Fitting.{IsFitting};
@@ -39,6 +40,7 @@ pub(crate) fn raise_row<S: System, G: Gate>(
 )
     requires system { shared.now.key.system.value ≡ system.now }
     requires fits { IsFitting (S.terms shared.now.key.system.value) shared.now.table_id seat.old }
+    requires gate { IsTrue (G.may_pass gate.now place_of.ClaimedSupporter number) }
     requires few { seat.old.me.0.begun + (S.terms shared.now.key.system.value).rules ≤ (S.terms shared.now.key.system.value).rules * seat.old.me.0.sweeps }
     requires row { IsRow (S.terms shared.now.key.system.value) row.now × (seat.old.me.0.loaded ≡ row.now) × (seat.old.me.0.seen ≡ row.now) }
     ensures seat { (seat.new.table_id ≡ seat.old.table_id) × (seat.new.id ≡ seat.old.id) × (seat.new.me.1 ≡ []) }

@@ -1,5 +1,8 @@
 //! Where workers on several threads can be watched or held.
 
+ghost use Rattle.std.specs.Prelude.{ℕ, Bool, true, IsTrue};
+ghost use Rattle.edge_io.specs.declared.gate.Place.{Place};
+
 /// What a worker is about to do.
 #[derive(Clone, Copy, Debug, PartialEq, Eq)]
 pub enum Place {
@@ -13,7 +16,11 @@ pub enum Place {
 ///
 /// `pass` returns, and promises nothing more: an implementation may count, or hold a worker for a while.
 pub trait Gate: Sync {
-    fn pass(&self, place: Place, worker: u32);
+    // Which worker numbers may pass it before which steps.
+    ghost may_pass: { Self → Place → ℕ → Bool } = { λ _ _ _. true };
+
+    fn pass(&self, place: Place, worker: u32)
+        requires { IsTrue (may_pass self.now place worker) };
 }
 
 /// Lets every worker pass at once.

@@ -21,7 +21,7 @@ gathered row row' seat rest whole e is = sym (append_assoc (map mark_of row') (m
 pub fewer : {A : Type 0} (P : A → Type 0) (l : List A) (a : A) → All P (l ++ a ∷ []) → All P l
 fewer P l a h k d lt = subst P (get_or-append l (a ∷ []) d k lt) (h k d (let e = length-append l (a ∷ []) in omega arith))
 
-pub next_marks : (first all : ℕ) (J : Journal) → first < all → marks_from first (all - first) J ≡ mark first J ∷ marks_from (first + 1) (all - (first + 1)) J
+pub next_marks : (first all : ℕ) (J : Journal) → first < all → marks_from first (all - first) J ≡ mark first J (length J) ∷ marks_from (first + 1) (all - (first + 1)) J
 next_marks first all J lt = ap (λ (k : ℕ). marks_from first k J) (next first all lt)
   where
     next : (m n : ℕ) → m < n → n - m ≡ suc (n - (m + 1))
@@ -40,7 +40,7 @@ pub dealt_all : (seats : List TurnSeat) (first count : ℕ) (J : Journal) → ma
 dealt_all [] first zero J e = (refl, All-nil (λ seat. seen_by seat ≡ J))
 dealt_all [] first (suc count) J e = absurd (let l = ap length e in omega arith)
 dealt_all (x ∷ xs) first zero J e = absurd (let l = ap length e in omega arith)
-dealt_all (x ∷ xs) first (suc count) J e = let m : mark_of x ≡ mark first J = ap (head_or (mark 0 [])) e in let t = dealt_all xs (first + 1) count J (ap rest_of e) in
+dealt_all (x ∷ xs) first (suc count) J e = let m : mark_of x ≡ mark first J (length J) = ap (head_or (mark 0 [] 0)) e in let t = dealt_all xs (first + 1) count J (ap rest_of e) in
     ((λ i. (m i).worker ∷ t.0 i), All-cons (λ seat. seen_by seat ≡ J) x xs (ap (λ (y : Mark). y.seen) m) t.1)
 
 pub workers_of_marks : (seats : List TurnSeat) → map worker_of_mark (map mark_of seats) ≡ map worker_of seats

@@ -42,7 +42,7 @@ handed_else f from to j other = ap (λ b. cond b to (f j)) (ne_eqb (f j) from ot
 seat_stays : (seats : ℕ) (now : Journal) (count holder seat : ℕ) (owner owner' : ℕ → ℕ) (v : View) → ((n : ℕ) → owner n ≡ seat → owner' n ≡ seat)
     → SeatHolds seats now count holder owner seat v → SeatHolds seats now count holder owner' seat v
 seat_stays seats now count holder seat owner owner' v still h =
-    (all_goes (MarkHolds seats now owner seat) (MarkHolds seats now owner' seat) (λ m t. (t.0, still m.worker t.1, t.2)) v.marks h.0, stage_stays v.stage h.1)
+    (all_goes (MarkHolds seats now count owner seat) (MarkHolds seats now count owner' seat) (λ m t. (t.0, still m.worker t.1, t.2, t.3)) v.marks h.0, stage_stays v.stage h.1)
   where
     stage_stays : (st : Stage) → StageHolds now count holder owner seat st → StageHolds now count holder owner' seat st
     stage_stays Waits t = t
@@ -50,14 +50,15 @@ seat_stays seats now count holder seat owner owner' v still h =
     stage_stays (Counted taken back) t = (t.0, t.1, t.2, read_as (IsOwn owner seat) (IsOwn owner' seat) (λ entry o. (o.0, o.1, still o.0 o.2)) now back t.3)
 
 -- the marks from a number on
-first_marks : (seats first count : ℕ) (J : Journal) (owner : ℕ → ℕ) (seat : ℕ) → ((n : ℕ) → owner n ≡ seat) → first + count ≤ seats → All (MarkHolds seats J owner seat) (marks_from first count J)
-first_marks seats first zero J owner seat all le = All-nil (MarkHolds seats J owner seat)
-first_marks seats first (suc count) J owner seat all le =
-    All-cons (MarkHolds seats J owner seat) (mark first J) (marks_from (first + 1) count J) (omega arith, all first, stays (λ entry. entry ≢ Some first) J) (first_marks seats (first + 1) count J owner seat all (omega arith))
+first_marks : (seats first count long : ℕ) (J : Journal) (owner : ℕ → ℕ) (seat : ℕ) → ((n : ℕ) → owner n ≡ seat) → first + count ≤ seats → length J ≤ long → All (MarkHolds seats J long owner seat) (marks_from first count J)
+first_marks seats first zero long J owner seat all le fits = All-nil (MarkHolds seats J long owner seat)
+first_marks seats first (suc count) long J owner seat all le fits =
+    All-cons (MarkHolds seats J long owner seat) (mark first J (length J)) (marks_from (first + 1) count J) (omega arith, all first, stays (λ entry. entry.worker ≢ Some first) J, fits)
+    (first_marks seats (first + 1) count long J owner seat all (omega arith) fits)
 
 later : (first low count : ℕ) (J : Journal) → low < first → All (λ (m : Mark). low < m.worker) (marks_from first count J)
 later first low zero J lt = All-nil (λ (m : Mark). low < m.worker)
-later first low (suc count) J lt = All-cons (λ (m : Mark). low < m.worker) (mark first J) (marks_from (first + 1) count J) lt (later (first + 1) low count J (omega arith))
+later first low (suc count) J lt = All-cons (λ (m : Mark). low < m.worker) (mark first J (length J)) (marks_from (first + 1) count J) lt (later (first + 1) low count J (omega arith))
 
 abbrev first_or : ℕ → List ℕ → ℕ
 first_or d [] = d
@@ -80,13 +81,13 @@ stands_right n [] ms h = h
 stands_right n (o ∷ os) ms h = inr (stands_right n os ms h)
 
 -- a seat that has all the numbers has each of them
-owns : (seats : ℕ) (now : Journal) (owner : ℕ → ℕ) (seat first count : ℕ) (ms : List Mark) → map worker_of_mark ms ≡ numbers_from first count → All (MarkHolds seats now owner seat) ms
+owns : (seats : ℕ) (now : Journal) (long : ℕ) (owner : ℕ → ℕ) (seat first count : ℕ) (ms : List Mark) → map worker_of_mark ms ≡ numbers_from first count → All (MarkHolds seats now long owner seat) ms
     → (n : ℕ) → first ≤ n → n < first + count → owner n ≡ seat
-owns seats now owner seat first zero ms e h n low high = absurd (omega arith)
-owns seats now owner seat first (suc count) [] e h n low high = absurd (let l = ap length e in omega arith)
-owns seats now owner seat first (suc count) (m ∷ ms) e h n low high = dite (ℕ_discrete n first)
-    (λ is. ap owner (is ∙ sym (ap (first_or 0) e)) ∙ (All-head (MarkHolds seats now owner seat) m ms h).1)
-    (λ other. owns seats now owner seat (first + 1) count ms (ap rest_of e) (All-tail (MarkHolds seats now owner seat) m ms h) n (omega arith) (omega arith))
+owns seats now long owner seat first zero ms e h n low high = absurd (omega arith)
+owns seats now long owner seat first (suc count) [] e h n low high = absurd (let l = ap length e in omega arith)
+owns seats now long owner seat first (suc count) (m ∷ ms) e h n low high = dite (ℕ_discrete n first)
+    (λ is. ap owner (is ∙ sym (ap (first_or 0) e)) ∙ (All-head (MarkHolds seats now long owner seat) m ms h).1)
+    (λ other. owns seats now long owner seat (first + 1) count ms (ap rest_of e) (All-tail (MarkHolds seats now long owner seat) m ms h) n (omega arith) (omega arith))
 
 module _ {T X : Type 0} (terms : T → X) (journal : T → Journal) (origin : T) (seats : ℕ) where
   abbrev St : Type 0
@@ -104,10 +105,10 @@ module _ {T X : Type 0} (terms : T → X) (journal : T → Journal) (origin : T)
 
       each : (seat : ℕ) (u : View) → get_elem? (waiting (marks_from 0 seats (journal origin)) ∷ []) seat ≡ some u → SeatHolds seats (journal origin) count 0 (λ _. 0) seat u
       each = all_snoc (SeatHolds seats (journal origin) count 0 (λ _. 0)) [] (waiting (marks_from 0 seats (journal origin)))
-          (first_marks seats 0 seats (journal origin) (λ _. 0) 0 (λ _. refl) (omega arith), λ e. omega arith) (λ j u e. absurd (let l = at_inside [] j u e in omega arith))
+          (first_marks seats 0 seats count (journal origin) (λ _. 0) 0 (λ _. refl) (omega arith) (omega (arith, is)), λ e. omega arith) (λ j u e. absurd (let l = at_inside [] j u e in omega arith))
 
   pub splits : (id first count : ℕ) (J : Journal)
-      → Splits Rule id (waiting (marks_from first (suc count) J)) (waiting (marks_from (first + 1) count J)) (waiting (mark first J ∷ []))
+      → Splits Rule id (waiting (marks_from first (suc count) J)) (waiting (marks_from (first + 1) count J)) (waiting (mark first J (length J) ∷ []))
   splits id first count J s r at = known terms journal origin seats s.words s.homes (set s.views id left ++ right ∷ []) r.now (get_or s.words 0 0) (get_or s.words 1 0) r.holder owner'
       r.two_words r.one_slot refl refl (all_snoc (SeatHolds seats r.now (get_or s.words 0 0) r.holder owner') (set s.views id left) right new
       (all_set (SeatHolds seats r.now (get_or s.words 0 0) r.holder owner') s.views id left mine others)) numbers r.at_rest (λ seat e. ((r.in_turn seat e).0, there seat e (r.in_turn seat e).1))
@@ -116,7 +117,7 @@ module _ {T X : Type 0} (terms : T → X) (journal : T → Journal) (origin : T)
       left = waiting (marks_from (first + 1) count J)
 
       right : View
-      right = waiting (mark first J ∷ [])
+      right = waiting (mark first J (length J) ∷ [])
 
       owner' : ℕ → ℕ
       owner' = put r.owner first (length s.views)
@@ -124,19 +125,19 @@ module _ {T X : Type 0} (terms : T → X) (journal : T → Journal) (origin : T)
       before : SeatHolds seats r.now (get_or s.words 0 0) r.holder r.owner id (waiting (marks_from first (suc count) J))
       before = r.each_seat id (waiting (marks_from first (suc count) J)) at
 
-      head : MarkHolds seats r.now r.owner id (mark first J)
-      head = All-head (MarkHolds seats r.now r.owner id) (mark first J) (marks_from (first + 1) count J) before.0
+      head : MarkHolds seats r.now (get_or s.words 0 0) r.owner id (mark first J (length J))
+      head = All-head (MarkHolds seats r.now (get_or s.words 0 0) r.owner id) (mark first J (length J)) (marks_from (first + 1) count J) before.0
 
-      tail : All (MarkHolds seats r.now r.owner id) (marks_from (first + 1) count J)
-      tail = All-tail (MarkHolds seats r.now r.owner id) (mark first J) (marks_from (first + 1) count J) before.0
+      tail : All (MarkHolds seats r.now (get_or s.words 0 0) r.owner id) (marks_from (first + 1) count J)
+      tail = All-tail (MarkHolds seats r.now (get_or s.words 0 0) r.owner id) (mark first J (length J)) (marks_from (first + 1) count J) before.0
 
       waits : r.holder ≢ suc id
       waits = before.1
 
       mine : SeatHolds seats r.now (get_or s.words 0 0) r.holder (put r.owner first (length s.views)) id (waiting (marks_from (first + 1) count J))
       mine = (
-        all_both (λ (m : Mark). first < m.worker) (MarkHolds seats r.now r.owner id) (MarkHolds seats r.now (put r.owner first (length s.views)) id)
-            (λ m lt h. (h.0, put_else r.owner first (length s.views) m.worker (λ e. omega arith) ∙ h.1, h.2)) (marks_from (first + 1) count J) (later (first + 1) first count J (omega arith)) tail,
+        all_both (λ (m : Mark). first < m.worker) (MarkHolds seats r.now (get_or s.words 0 0) r.owner id) (MarkHolds seats r.now (get_or s.words 0 0) (put r.owner first (length s.views)) id)
+            (λ m lt h. (h.0, put_else r.owner first (length s.views) m.worker (λ e. omega arith) ∙ h.1, h.2, h.3)) (marks_from (first + 1) count J) (later (first + 1) first count J (omega arith)) tail,
         waits,
       )
 
@@ -144,9 +145,9 @@ module _ {T X : Type 0} (terms : T → X) (journal : T → Journal) (origin : T)
       others j u other e = seat_stays seats r.now (get_or s.words 0 0) r.holder j r.owner (put r.owner first (length s.views)) u
           (λ n o. put_else r.owner first (length s.views) n (λ is. other (sym o ∙ (ap r.owner is ∙ head.1))) ∙ o) (r.each_seat j u e)
 
-      new : SeatHolds seats r.now (get_or s.words 0 0) r.holder (put r.owner first (length s.views)) (length (set s.views id left)) (waiting (mark first J ∷ []))
-      new = subst (λ (n : ℕ). SeatHolds seats r.now (get_or s.words 0 0) r.holder (put r.owner first (length s.views)) n (waiting (mark first J ∷ []))) (sym (length-set s.views id left)) (
-        all_one (MarkHolds seats r.now (put r.owner first (length s.views)) (length s.views)) (mark first J) (head.0, put_here r.owner first (length s.views), head.2),
+      new : SeatHolds seats r.now (get_or s.words 0 0) r.holder (put r.owner first (length s.views)) (length (set s.views id left)) (waiting (mark first J (length J) ∷ []))
+      new = subst (λ (n : ℕ). SeatHolds seats r.now (get_or s.words 0 0) r.holder (put r.owner first (length s.views)) n (waiting (mark first J (length J) ∷ []))) (sym (length-set s.views id left)) (
+        all_one (MarkHolds seats r.now (get_or s.words 0 0) (put r.owner first (length s.views)) (length s.views)) (mark first J (length J)) (head.0, put_here r.owner first (length s.views), head.2, head.3),
         λ e. let t = (r.in_turn (length s.views) e).1 in let l = at_inside s.views (length s.views) t.0 t.3 in omega arith,
       )
 
@@ -200,14 +201,14 @@ module _ {T X : Type 0} (terms : T → X) (journal : T → Journal) (origin : T)
 
       mine : SeatHolds seats r.now (get_or s.words 0 0) r.holder (handed r.owner other id) id (waiting (os ++ ms))
       mine = (
-        All-append (MarkHolds seats r.now (handed r.owner other id) id) os ms
-            (all_goes (MarkHolds seats r.now r.owner other) (MarkHolds seats r.now (handed r.owner other id) id) (λ m h. (h.0, handed_here r.owner other id m.worker h.1, h.2)) os theirs.0)
-            (all_goes (MarkHolds seats r.now r.owner id) (MarkHolds seats r.now (handed r.owner other id) id) (λ m h. (h.0, handed_else r.owner other id m.worker (λ e. apart (sym e ∙ h.1)) ∙ h.1, h.2)) ms before.0),
+        All-append (MarkHolds seats r.now (get_or s.words 0 0) (handed r.owner other id) id) os ms
+            (all_goes (MarkHolds seats r.now (get_or s.words 0 0) r.owner other) (MarkHolds seats r.now (get_or s.words 0 0) (handed r.owner other id) id) (λ m h. (h.0, handed_here r.owner other id m.worker h.1, h.2, h.3)) os theirs.0)
+            (all_goes (MarkHolds seats r.now (get_or s.words 0 0) r.owner id) (MarkHolds seats r.now (get_or s.words 0 0) (handed r.owner other id) id) (λ m h. (h.0, handed_else r.owner other id m.worker (λ e. apart (sym e ∙ h.1)) ∙ h.1, h.2, h.3)) ms before.0),
         before.1,
       )
 
       gone : SeatHolds seats r.now (get_or s.words 0 0) r.holder (handed r.owner other id) other (waiting [])
-      gone = (All-nil (MarkHolds seats r.now (handed r.owner other id) other), theirs.1)
+      gone = (All-nil (MarkHolds seats r.now (get_or s.words 0 0) (handed r.owner other id) other), theirs.1)
 
       others : (j : ℕ) (u : View) → j ≢ id → j ≢ other → get_elem? s.views j ≡ some u → SeatHolds seats r.now (get_or s.words 0 0) r.holder (handed r.owner other id) j u
       others j u ne other_too e = seat_stays seats r.now (get_or s.words 0 0) r.holder j r.owner (handed r.owner other id) u
@@ -244,26 +245,26 @@ module _ {T X : Type 0} (terms : T → X) (journal : T → Journal) (origin : T)
 
   -- where one seat has all the numbers and holds no turn, the value is at home
   pub ends : (id : ℕ) (ms : List Mark) (s : St) → (r : Rule s) → get_elem? s.views id ≡ some (waiting ms) → map worker_of_mark ms ≡ numbers_from 0 seats
-      → (value : T) × (get_elem? s.homes 0 ≡ some (some (Some value))) × (terms value ≡ terms origin) × All (λ m. OthersAfter m.worker m.seen (journal value)) ms
+      → (value : T) × (get_elem? s.homes 0 ≡ some (some (Some value))) × (terms value ≡ terms origin) × All (λ m. OthersAfter m.worker m.seen (journal value) × (m.known ≤ length (journal value))) ms
   ends id ms s r at all = go r.holder refl
     where
       Ends : Type 0
-      Ends = (value : T) × (get_elem? s.homes 0 ≡ some (some (Some value))) × (terms value ≡ terms origin) × All (λ m. OthersAfter m.worker m.seen (journal value)) ms
+      Ends = (value : T) × (get_elem? s.homes 0 ≡ some (some (Some value))) × (terms value ≡ terms origin) × All (λ m. OthersAfter m.worker m.seen (journal value) × (m.known ≤ length (journal value))) ms
 
       before : SeatHolds seats r.now (get_or s.words 0 0) r.holder r.owner id (waiting ms)
       before = r.each_seat id (waiting ms) at
 
       nobody : (seat : ℕ) → r.holder ≡ suc seat → ⊥
       nobody seat e = let t = (r.in_turn seat e).1 in let h = (r.each_seat seat t.0 t.3).0 in
-          let m : MarkHolds seats r.now r.owner seat t.1 = All-head (MarkHolds seats r.now r.owner seat) t.1 t.2 (subst (All (MarkHolds seats r.now r.owner seat)) t.4 h) in
-          before.1 (e ∙ ap suc (sym m.1 ∙ owns seats r.now r.owner id 0 seats ms all before.0 t.1.worker (omega arith) (let l = m.0 in omega arith)))
+          let m : MarkHolds seats r.now (get_or s.words 0 0) r.owner seat t.1 = All-head (MarkHolds seats r.now (get_or s.words 0 0) r.owner seat) t.1 t.2 (subst (All (MarkHolds seats r.now (get_or s.words 0 0) r.owner seat)) t.4 h) in
+          before.1 (e ∙ ap suc (sym m.1 ∙ owns seats r.now (get_or s.words 0 0) r.owner id 0 seats ms all before.0 t.1.worker (omega arith) (let l = m.0 in omega arith)))
 
       go : (h : ℕ) → r.holder ≡ h → Ends
-      go zero e = let home = (r.at_rest e).2 in (
+      go zero e = let home = (r.at_rest e).2 in let counted = (r.at_rest e).1 in (
         home.0,
         home.1,
         home.2,
-        subst (λ (J : Journal). All (λ (m : Mark). OthersAfter m.worker m.seen J) ms) (sym home.3)
-            (all_goes (MarkHolds seats r.now r.owner id) (λ m. OthersAfter m.worker m.seen r.now) (λ m h. h.2) ms before.0),
+        subst (λ (J : Journal). All (λ (m : Mark). OthersAfter m.worker m.seen J × (m.known ≤ length J)) ms) (sym home.3)
+            (all_goes (MarkHolds seats r.now (get_or s.words 0 0) r.owner id) (λ m. OthersAfter m.worker m.seen r.now × (m.known ≤ length r.now)) (λ m h. (h.2, let l = h.3 in omega arith)) ms before.0),
       )
       go (suc seat) e = absurd (nobody seat e)

@@ -5,7 +5,7 @@ use Rattle.turn_lock.specs.History.{Journal}
 use Rattle.turn_lock.specs.declared.turn.Turn.{Turn}
 use Rattle.turn_lock.specs.declared.turn.Held.{Held}
 use Rattle.turn_lock.specs.declared.seat.TurnSeat.{TurnSeat}
-use Rattle.turn_lock.specs.Words.{numbers_from, seen_in}
+use Rattle.turn_lock.specs.Words.{numbers_from, seen_in, known_in}
 use Rattle.turn_lock.specs.Seats.{worker_of, lock_of_seat}
 
 module _ {T : Type 0} where
@@ -30,6 +30,10 @@ module _ {T : Type 0} where
   -- the journal of the value as it was taken
   abbrev pub taken_of : Held T → Journal
   taken_of held = seen_in held.hand.place.me.0
+
+  -- how many entries the history has at least, as the lock counted it for that worker before it took the value
+  abbrev pub known_by_holder : Held T → ℕ
+  known_by_holder held = known_in held.hand.place.me.0
 
   abbrev pub lock_of_held : Held T → TableId
   lock_of_held held = held.hand.place.table_id

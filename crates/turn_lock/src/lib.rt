@@ -4,8 +4,6 @@
 pub mod laws;
 mod plays;
 mod seat;
-#[cfg(test)]
-mod tests;
 mod told;
 mod turn;
 mod view;

@@ -1,7 +1,7 @@
 //! The lock, and its value in the hand of a worker.
 
 ghost use Rattle.std.specs.Prelude.{◌≡◌, ◌≤◌, ◌<◌, [], ◌∷◌, None};
-ghost use Rattle.turn_lock.specs.Words.{holding, seen_in};
+ghost use Rattle.turn_lock.specs.Words.{holding, seen_in, known_in};
 
 use crate::plays::{Key, Turns};
 use crate::told::Told;
@@ -31,7 +31,7 @@ pub struct Turn<T: Told> {
 struct Hand<T> {
     worker: u32,
     place: Seat<Option<T>, View>,
-    ghost holds: { place.me ≡ (holding worker (seen_in place.me.0), (0, None) ∷ []) },
+    ghost holds: { place.me ≡ (holding worker (seen_in place.me.0) (known_in place.me.0), (0, None) ∷ []) },
 }
 
 /// The value of a lock in the hand of a worker. It has no `Drop`, so it ends in `Turn::give`.

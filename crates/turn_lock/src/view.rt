@@ -2,13 +2,24 @@
 
 use std::collections::LinkedList;
 
-/// The entries of a journal: the number of the worker that made each, or none.
-pub type Entries = LinkedList<Option<u64>>;
+/// An entry of a journal.
+pub struct Entry {
+    /// The number of the worker that made it, or none.
+    pub worker: Option<u64>,
+    /// What its event was, spelled in numbers.
+    pub said: LinkedList<u64>,
+}
 
-/// A worker number, and the journal that this worker has seen.
+/// The entries of a journal.
+pub type Entries = LinkedList<Entry>;
+
+/// A worker number, and what this worker knows of the history.
 pub struct Mark {
     pub worker: u64,
+    /// The journal that it has seen.
     pub seen: Entries,
+    /// The greatest length of the history that the lock counted for it.
+    pub known: u64,
 }
 
 /// How far a seat is in a turn.

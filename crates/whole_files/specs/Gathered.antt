@@ -1,35 +1,56 @@
--- What reading files gives.
-use Rattle.std.specs.Prelude.{ℕ, ◌≡◌, ◌<◌, ◌≤◌, ◌⊎◌, List, Option, Some, None, All, length, map, IfSome, IsSomeAnd}
+-- What reading files one after another gives.
+use Rattle.std.specs.Prelude.{ℕ, ◌≡◌, ◌+◌, ◌<◌, ◌≤◌, ◌⊎◌, List, Option, Some, None, length, take, slice_get, IfSome, IsSomeAnd}
+use Rattle.std.specs.List.{AllZip}
 use Rattle.edge_io.specs.Causes.{Rose}
 use Rattle.edge_io.specs.Folder.{Folder, bytes_named}
-use Rattle.whole_files.specs.Seen.{Seen, ReadsWell, IsMissing, IsTooLarge}
+use Rattle.whole_files.specs.Seen.{Seen, HasBegun, ReadsWell}
 use Rattle.whole_files.specs.declared.gathered.Gathered.{Gathered}
-use Rattle.whole_files.specs.declared.gathered.Gathered.TheVariants as gathered
-use Rattle.whole_files.specs.declared.gathered.Once.{Once}
-use Rattle.whole_files.specs.declared.gathered.Once.TheVariants as once
+use Rattle.whole_files.specs.declared.gathered.Gathered.TheVariants.{Texts, Missing, TooLarge}
+use Rattle.whole_files.specs.declared.wanted.Wanted.{Wanted}
 
--- what reading one file gives, over the counts of faults before and after
-abbrev pub IsOnce : ℕ → Option Folder → ℕ → ℕ → List ℕ → Once → Type 0
-IsOnce limit told before after name once.Missing = Rose before after ⊎ IsSomeAnd told (λ folder. bytes_named folder name ≡ None)
-IsOnce limit told before after name once.TooLarge =
-    (after ≡ before) × IfSome told (λ folder. (text : List ℕ) × (bytes_named folder name ≡ Some text) × (limit < length text))
-IsOnce limit told before after name (once.Whole text) =
-    (after ≡ before) × (length text ≤ limit) × IfSome told (λ folder. bytes_named folder name ≡ Some text)
+-- this is the file's text, so far as files are told, and it isn't longer than the limit
+pub record IsText (told : Option Folder) (file : Wanted) (text : List ℕ) : Type 0 where
+  pub is_told : IfSome told (λ folder. bytes_named folder file.name ≡ Some text)
+  pub small : length text ≤ file.limit
 
--- what is made of the bytes of a file that was read to one byte more than the limit at most
-abbrev pub IsCut : ℕ → List ℕ → Once → Type 0
-IsCut limit bytes once.Missing = ⊥
-IsCut limit bytes once.TooLarge = limit < length bytes
-IsCut limit bytes (once.Whole text) = (text ≡ bytes) × (length bytes ≤ limit)
+-- these are the files' texts, in their order
+abbrev pub AreTexts : Option Folder → List Wanted → List (List ℕ) → Type 0
+AreTexts told files texts = AllZip (IsText told) files texts
 
--- all files were read: these are their texts, where they are told
-pub record AreGathered (limit : ℕ) (seen : Seen) (names texts : List (List ℕ)) : Type 0 where
-  pub well : ReadsWell seen (length names)
-  pub as_many : length texts ≡ length names
-  pub small : All (λ text. length text ≤ limit) texts
-  pub told : IfSome seen.told (λ folder. map (bytes_named folder) names ≡ map Some texts)
+-- the files before this place, counted from 0, have texts
+abbrev pub HaveTexts : Option Folder → List Wanted → ℕ → Type 0
+HaveTexts told files k = (texts : List (List ℕ)) × AreTexts told (take k files) texts
 
-abbrev pub IsGathered : ℕ → Seen → List (List ℕ) → Gathered → Type 0
-IsGathered limit seen names (gathered.Texts texts) = AreGathered limit seen names texts
-IsGathered limit seen names (gathered.Missing k) = (name : List ℕ) × IsMissing limit seen names k name
-IsGathered limit seen names (gathered.TooLarge k) = (k < length names) × IsTooLarge limit seen names k
+-- all files were read, as many as there are, without a fault: these are their texts
+pub record AreGathered (seen : Seen) (files : List Wanted) (texts : List (List ℕ)) : Type 0 where
+  pub well : ReadsWell seen (length files)
+  pub are_texts : AreTexts seen.told files texts
+
+-- Of these files the one at this place is the last that was begun in the call. Those before it have texts, and no fault
+-- came before it. Since it was begun a fault came, or the file isn't there.
+pub record IsMissing (seen : Seen) (files : List Wanted) (k : ℕ) : Type 0 where
+  pub file : Wanted
+  pub kth : slice_get files k ≡ Some file
+  pub begun : HasBegun seen (k + 1)
+  pub no_fault_before : seen.mark_after ≡ seen.faults_before
+  pub texts_before : HaveTexts seen.told files k
+  pub cause : Rose seen.mark_after seen.faults_after ⊎ IsSomeAnd seen.told (λ folder. bytes_named folder file.name ≡ None)
+
+-- the file is there, with a text that is longer than the limit
+abbrev pub IsLarge : Folder → Wanted → Type 0
+IsLarge folder file = (text : List ℕ) × (bytes_named folder file.name ≡ Some text) × (file.limit < length text)
+
+-- Of these files the one at this place is the last that was begun in the call, which had no fault. Those before it have
+-- texts, and it is too long.
+pub record IsTooLarge (seen : Seen) (files : List Wanted) (k : ℕ) : Type 0 where
+  pub file : Wanted
+  pub kth : slice_get files k ≡ Some file
+  pub well : ReadsWell seen (k + 1)
+  pub texts_before : HaveTexts seen.told files k
+  pub large : IfSome seen.told (λ folder. IsLarge folder file)
+
+-- what a call that reads these files gives
+abbrev pub IsGathered : Seen → List Wanted → Gathered → Type 0
+IsGathered seen files (Texts texts) = AreGathered seen files texts
+IsGathered seen files (Missing k) = IsMissing seen files k
+IsGathered seen files (TooLarge k) = IsTooLarge seen files k

@@ -1,2 +1,3 @@
-pub mod Seen
 pub mod Gathered
+pub mod Once
+pub mod Seen

@@ -3,9 +3,8 @@
 
 mod gathered;
 mod reading;
+mod wanted;
 
 pub use gathered::Gathered;
 pub use reading::read_all;
-
-#[cfg(test)]
-mod tests;
+pub use wanted::Wanted;

@@ -1,10 +1,13 @@
 //! The calls that read.
 
-ghost use Rattle.std.specs.Prelude.{◌≡◌, ◌≤◌, ◌<◌, ◌^◌, length, IfOk};
+ghost use Rattle.std.specs.Prelude.{◌≡◌, ◌≤◌, ◌<◌, ◌^◌, length, IfOk, OnErr};
 ghost use Rattle.edge_io.specs.Causes.{counted};
-ghost use Rattle.whole_files.specs.Gathered.{IsCut, IsGathered, IsOnce};
+ghost use Rattle.whole_files.specs.Gathered.{IsGathered};
+ghost use Rattle.whole_files.specs.Once.{IsCut, IsOnce};
+ghost use Rattle.whole_files.specs.Seen.{saw};
 
 use crate::gathered::{Gathered, Once};
+use crate::wanted::Wanted;
 use edge_io::{Files, ReadFault, read_whole};
 use num_ends::{List, NoMemory, Text};
 use std::alloc::Global;
@@ -19,50 +22,45 @@ fn once_of(bytes: Vec<u8>, limit: u32) -> Once
     Once::Whole(Text::from_vec(bytes))
 }
 
-/// Reads the named file.
+/// Reads one file.
+#[tactic(auto, unfolding(crate::specs::Seen::saw))]
 pub(crate) fn read_once<F: Files>(
     alloc: Global,
     files: &mut F,
-    name: &[u8],
-    limit: u32,
+    file: &Wanted,
 ) -> Result<Once, NoMemory>
     ensures same_folder { F.told files.new ≡ F.told files.old }
     ensures next_begun { F.begun files.new ≡ counted (F.begun files.old) }
     ensures new_mark { F.mark files.new ≡ F.faults files.old }
     ensures later { F.faults files.old ≤ F.faults files.new }
-    ensures read { IfOk result (IsOnce limit (F.told files.old) (F.faults files.old) (F.faults files.new) name.now) }
+    ensures read { IfOk result (IsOnce (saw F.Files files.old files.new) file.now) }
+    ensures memory { OnErr result (F.faults files.new ≡ F.faults files.old) }
 {
-    let Ok(()) = files.begin(name) else {
+    let Ok(()) = files.begin(file.name.as_slice()) else {
         return Ok(Once::Missing);
     };
-    match read_whole(alloc, files, limit) {
-        Ok(bytes) => Ok(once_of(bytes, limit)),
+    match read_whole(alloc, files, file.limit) {
+        Ok(bytes) => Ok(once_of(bytes, file.limit)),
         Err(ReadFault::Failed) => Ok(Once::Missing),
         Err(ReadFault::NoMemory) => Err(NoMemory),
     }
 }
 
-/// Reads the files of these names, one after another, each to its end. It stops at the first that isn't there, that
-/// fails, or that has more bytes than the limit; the files behind it aren't begun.
+/// Reads these files, one after another, each to its end. It stops at the first that isn't there, that fails, or that has
+/// more bytes than its limit; the files behind it aren't begun. Where there is no memory, no fault came from the files.
+#[tactic(auto, unfolding(crate::specs::Seen::saw))]
 pub fn read_all<F: Files>(
     alloc: Global,
     files: &mut F,
-    names: &[Text],
-    limit: u32,
+    wanted: &[Wanted],
 ) -> Result<Gathered, NoMemory>
-    requires { length names.now < 2 ^ 32 }
-    ensures { IfOk result (IsGathered limit (record {
-      told = F.told files.old;
-      faults_before = F.faults files.old;
-      faults_after = F.faults files.new;
-      begun_before = F.begun files.old;
-      begun_after = F.begun files.new;
-      mark_after = F.mark files.new;
-    }) names.now) }
+    requires { length wanted.now < 2 ^ 32 }
+    ensures gathered { IfOk result (IsGathered (saw F.Files files.old files.new) wanted.now) }
+    ensures memory { OnErr result (F.faults files.new ≡ F.faults files.old) }
 {
     let mut texts = List::new(alloc);
-    'each: for name in names {
-        match read_once(alloc, files, name.as_slice(), limit)? {
+    'each: for file in wanted {
+        match read_once(alloc, files, file)? {
             Once::Missing => return Ok(Gathered::Missing(texts.len() as u32)),
             Once::TooLarge => return Ok(Gathered::TooLarge(texts.len() as u32)),
             Once::Whole(text) => texts.push(text)?,

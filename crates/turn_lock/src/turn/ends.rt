@@ -14,7 +14,7 @@ impl<T: Told> Turn<T> {
     ghost use Rattle.std.specs.Prelude.{◌≡◌, ◌≤◌, ◌<◌, [], length, map, All, IfOk, IfSome, IsSome, vec_capacity};
     ghost use Rattle.turn_lock.specs.History.{OthersAfter};
     ghost use Rattle.turn_lock.specs.Words.{waiting, marks_from, numbers_from};
-    ghost use Rattle.turn_lock.specs.Seats.{seen_by, lock_of_seat, worker_of, mark_of};
+    ghost use Rattle.turn_lock.specs.Seats.{seen_by, known_length, lock_of_seat, worker_of, mark_of};
     ghost use Rattle.turn_lock.specs.Locks.{origin, seats_of, lock_id, AreAllSeats};
 
     /// A lock around a value, with so many seats. The i-th seat has the worker number i and has seen the whole
@@ -84,7 +84,9 @@ impl<T: Told> Turn<T> {
     // What is in the slot at the end: the value.
     fn slot_at_end(self, seats: List<TurnSeat>) -> Option<T>
         requires { AreAllSeats self seats }
-        ensures { IsSome result × IfSome result (λ value. (T.terms value ≡ T.terms (origin self)) × All (λ seat. OthersAfter seat.worker (seen_by seat) (T.journal value)) seats) }
+        ensures { IsSome result × IfSome result (λ value. (T.terms value ≡ T.terms (origin self))
+            × All (λ seat. OthersAfter seat.worker (seen_by seat) (T.journal value)) seats
+            × All (λ seat. known_length seat ≤ length (T.journal value)) seats) }
     {
         let place = self.gather(seats.into_vec());
         let Turn { table } = self;
@@ -94,12 +96,14 @@ impl<T: Told> Turn<T> {
         slot
     }
 
-    /// The value at the end, for a caller with each seat that `new` gave, in order. Its terms are the lock's, and
-    /// its journal begins with what each seat has seen, after which no entry has that seat's worker number.
+    /// The value at the end, for a caller with each seat that `new` gave, in order. Its terms are the lock's. Its
+    /// journal begins with what each seat has seen, after which no entry has that seat's worker number, and is no
+    /// shorter than it was counted for any of them.
     pub fn close(self, seats: List<TurnSeat>) -> T
         requires { AreAllSeats self seats }
         ensures terms { T.terms result ≡ T.terms (origin self) }
         ensures journal { All (λ seat. OthersAfter seat.worker (seen_by seat) (T.journal result)) seats }
+        ensures counted { All (λ seat. known_length seat ≤ length (T.journal result)) seats }
     {
         self.slot_at_end(seats).unwrap()
     }

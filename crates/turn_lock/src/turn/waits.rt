@@ -21,10 +21,10 @@ const SLEEP_MICROSECONDS: u64 = 50;
 const DOUBLINGS: u32 = 2;
 
 impl<T: Told> Turn<T> {
-    ghost use Rattle.std.specs.Prelude.{◌≡◌};
+    ghost use Rattle.std.specs.Prelude.{◌≡◌, ◌≤◌, length};
     ghost use Rattle.turn_lock.specs.History.{OthersAfter};
-    ghost use Rattle.turn_lock.specs.Seats.{seen_by, lock_of_seat};
-    ghost use Rattle.turn_lock.specs.Locks.{origin, lock_id, lock_of_held, holder_of, taken_of};
+    ghost use Rattle.turn_lock.specs.Seats.{seen_by, known_length, lock_of_seat};
+    ghost use Rattle.turn_lock.specs.Locks.{origin, lock_id, lock_of_held, holder_of, taken_of, known_by_holder};
 
     // Spins at first, then gives way, then sleeps for a moment while another worker has the value. It gives the next round.
     fn pause<R: Wait>(&self, rt: &R, round: u32) -> u32 {
@@ -45,13 +45,14 @@ impl<T: Told> Turn<T> {
     }
 
     /// The value, once no other worker has it. It may wait: it spins briefly and then gives way to other threads.
-    /// The value's terms are the lock's, and its journal begins with what the seat has seen, after which no entry
-    /// has the seat's worker number.
+    /// The value's terms are the lock's. Its journal begins with what the seat has seen, after which no entry has the
+    /// seat's worker number, and is no shorter than it was counted for the seat.
     pub fn take<R: Wait>(&self, rt: &R, seat: TurnSeat) -> Held<T>
         requires { lock_of_seat seat ≡ lock_id self.now }
         ensures seat { (lock_of_held result ≡ lock_id self.now) × (holder_of result ≡ seat.worker) }
         ensures value { (taken_of result ≡ T.journal result.value) × (T.terms result.value ≡ T.terms (origin self.now)) }
         ensures journal { OthersAfter seat.worker (seen_by seat) (T.journal result.value) }
+        ensures counted { (known_by_holder result ≡ known_length seat) × (known_length seat ≤ length (T.journal result.value)) }
     {
         let (worker, mut place) = seat.into_place::<T>();
         let before = Snapshot::of(&place);

@@ -3,4 +3,4 @@ use Rattle.turn_lock.proofs.Histories.{place_stays}
 use Rattle.turn_lock.proofs.laws.entries_stay.Goals as goal
 
 pub returns : goal.returns
-returns c = record { others = λ worker. place_stays (λ entry. entry ≢ Some worker); own = λ worker. place_stays (λ entry. entry ≡ Some worker) }
+returns c = record { others = λ worker. place_stays (λ entry. entry.worker ≢ Some worker); own = λ worker. place_stays (λ entry. entry.worker ≡ Some worker) }

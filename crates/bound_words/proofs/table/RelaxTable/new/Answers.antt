@@ -1,12 +1,12 @@
-use Rattle.std.proofs.Common.{arith, ◌≡◌, ℕ, ◌<◌, ◌∷◌, [], List, sym, ap, ◌∙◌, subst}
+use Rattle.std.proofs.Common.{arith, ◌≡◌, ℕ, ◌<◌, ◌∷◌, [], List, All, sym, ap, ◌∙◌, subst}
 use mathlib.Core.Option.{some}
 use lib.ListN.{get_elem?}
 use Rattle.atomic_table.specs.Table.{opening}
 use Rattle.bound_words.specs.declared.seat.RelaxSeat.{RelaxSeat}
 use Rattle.bound_words.specs.Rows.{IsRow}
 use Rattle.bound_words.specs.Protocol.{Kept, first_view}
-use Rattle.bound_words.specs.Seats.{IsNewSeat}
-use Rattle.bound_words.proofs.Closing.{all_single}
+use Rattle.bound_words.specs.Seats.{IsNewSeat, IsFreshAt}
+use Rattle.bound_words.proofs.Closing.{all_new}
 use Rattle.bound_words.proofs.Sharing.{opens}
 use Rattle.bound_words.proofs.table.RelaxTable.new.Goals as goal
 
@@ -25,6 +25,7 @@ returns-clause-seats g c = λ i s at. let known = ap (λ k. k.system.value) c.in
     subst (λ x. IsNewSeat (g.S.System.terms x) c.args.start.now c.in_ok-table.table.shared.table_id i s) known (c.in_ok-list.ensures.each i s (subst (λ (l : List RelaxSeat). get_elem? l i ≡ some s) c.from_vec.ensures at))
 
 pub returns-clause-each : goal.returns-clause-each
-returns-clause-each g c = let known = ap (λ k. k.system.value) c.in_ok-table.ensures.5 ∙ c.of.ensures in
-    all_single (g.S.System.terms c.args.system) c.args.start.now c.in_ok-table.table.shared.table_id c.from_vec.result (λ i s at.
-    subst (λ x. IsNewSeat (g.S.System.terms x) c.args.start.now c.in_ok-table.table.shared.table_id i s) known (c.in_ok-list.ensures.each i s (subst (λ (l : List RelaxSeat). get_elem? l i ≡ some s) c.from_vec.ensures at)))
+returns-clause-each g c = let key = c.in_ok-table.table.shared.key in let id = c.in_ok-table.table.shared.table_id in let t = g.S.System.terms key.system.value in
+    let start : key.start.value ≡ c.args.start.now = ap (λ k. k.start.value) c.in_ok-table.ensures.5 ∙ (c.of-2.ensures ∙ (c.from_vec-first.ensures ∙ c.in_ok-to_vec.ensures.items_if_clones_equal (λ x y h. h))) in
+    subst (λ (l : List ℕ). All (IsFreshAt t l id) c.from_vec.result) (sym start)
+    (all_new t c.args.start.now id c.from_vec.result (λ i s at. c.in_ok-list.ensures.each i s (subst (λ (l : List RelaxSeat). get_elem? l i ≡ some s) c.from_vec.ensures at)))

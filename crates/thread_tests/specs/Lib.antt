@@ -1,0 +1,4 @@
+pub mod Samples
+pub mod SampleLaws
+pub mod Settling
+pub mod Diaries

@@ -1,0 +1,11 @@
+//! Tests of what threads share: tables of words, and locks.
+#![tactic(auto)]
+
+#[cfg(test)]
+mod diaries;
+#[cfg(test)]
+mod gates;
+#[cfg(test)]
+mod sweeps;
+#[cfg(test)]
+mod systems;
