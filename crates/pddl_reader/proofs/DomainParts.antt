@@ -7,8 +7,10 @@ use Rattle.pddl_terms.specs.declared.names.Typed.{Typed}
 use Rattle.pddl_terms.specs.declared.names.Sig.{Sig}
 use Rattle.pddl_terms.specs.declared.actions.Schema.{Schema}
 use Rattle.pddl_terms.specs.declared.files.Domain.{Domain}
-use Rattle.pddl_reader.specs.Forms.{Parsed}
-use Rattle.pddl_reader.specs.Texts.{domain_of_sections, functions_in, objects_in, predicates_in, schemas_in, types_in}
+use Rattle.pddl_trees.specs.Forms.{Parsed}
+use Rattle.pddl_trees.specs.Domains.{domain_of_sections, functions_in, predicates_in, types_in}
+use Rattle.pddl_trees.specs.Sections.{objects_in}
+use Rattle.pddl_trees.specs.Actions.{schemas_in}
 
 abbrev made : Option Name → List Typed → List Typed → List Sig → List Sig → List Schema → Option Domain
 made name types constants predicates functions schemas =

@@ -9,12 +9,14 @@ use Rattle.pddl_terms.specs.declared.names.Atom.{Atom}
 use Rattle.pddl_terms.specs.declared.names.Typed.{Typed}
 use Rattle.pddl_terms.specs.declared.conditions.Cond.{Cond}
 use Rattle.pddl_terms.specs.declared.files.Problem.{Problem}
-use Rattle.pddl_reader.specs.Forms.{Parsed, both, form_of, forms_of, misfit, shape_at}
-use Rattle.pddl_reader.specs.Cut.{cut_cond}
-use Rattle.pddl_reader.specs.Lists.{parts_of}
-use Rattle.pddl_reader.specs.Sections.{Entry, content_of, goal_of, place_of, problem_sections, section_named}
-use Rattle.pddl_reader.specs.Texts.{domain_name_faults, entries_in, frame_of, goal_in, metric_in, needed_section, objects_in, problem_in, problem_of_sections, problem_parts, problem_tree, requirements_faults, sections_of, word_and_repeat_faults}
-use Rattle.pddl_reader.proofs.Soundness.{condition_built}
+use Rattle.pddl_trees.specs.Forms.{Parsed, both, misfit, shape_at}
+use Rattle.pddl_trees.specs.Trees.{form_of, forms_of, parts_of, place_of}
+use Rattle.pddl_trees.specs.Initial.{Entry, entries_in}
+use Rattle.pddl_trees.specs.Sections.{content_of, problem_sections, section_named, objects_in, requirements_faults, sections_of, word_and_repeat_faults}
+use Rattle.pddl_trees.specs.Goals.{goal_of, goal_in, metric_in}
+use Rattle.pddl_trees.specs.Problems.{domain_name_faults, needed_section, problem_in, problem_of_sections, problem_parts, problem_tree}
+use Rattle.pddl_trees.specs.Frames.{frame_of}
+use Rattle.pddl_expressions.proofs.Soundness.{tree_sound}
 use Rattle.pddl_reader.proofs.There.{IsThere, back_empty, frame_there, front_empty}
 
 abbrev made : Option Name → List Typed → List Atom → List (Atom × Decimal) → Option Cond → Option Problem
@@ -44,8 +46,8 @@ both_there f (Some x) (Some y) there other e = cc e
 
 condition_there : (text : List ℕ) (t : Tree) → (form_of text t).cond.faults ≡ [] → (form_of text t).cond.value ≡ None → ⊥
 condition_there text t none missing =
-    let built = condition_built text t (cut_cond (form_of text t).cond.value) refl none in
-    let clash : Some built.0 ≡ None = sym built.1 ∙ missing in
+    let there = (tree_sound text t).cond none in
+    let clash : Some there.0 ≡ None = sym there.1 ∙ missing in
     cc clash
 
 goal_there : (text : List ℕ) (at : ℕ) (ts : List Tree) → IsThere Cond (goal_of at (forms_of text ts))

@@ -6,10 +6,13 @@ use Rattle.num_ends.specs.Names.{is_name}
 use Rattle.sexp_text.specs.declared.trees.Tree.{Tree}
 use Rattle.pddl_terms.specs.declared.names.Name.{Name}
 use Rattle.pddl_terms.specs.declared.files.Domain.{Domain}
-use Rattle.pddl_reader.specs.Forms.{Parsed, Form, forms_of, misfit, shape_at, sound}
-use Rattle.pddl_reader.specs.Lists.{named_at, parts_of}
-use Rattle.pddl_reader.specs.Sections.{domain_sections, name_of, only_name, place_of}
-use Rattle.pddl_reader.specs.Texts.{definition_in, definition_of, domain_in, domain_of_sections, domain_tree, definition_word_faults, frame_of, functions_in, objects_in, predicates_in, requirements_faults, schemas_in, sections_of, types_in, word_and_repeat_faults}
+use Rattle.pddl_trees.specs.Forms.{Parsed, Form, misfit, shape_at, sound}
+use Rattle.pddl_trees.specs.Trees.{forms_of, parts_of, place_of}
+use Rattle.pddl_trees.specs.Names.{named_at, name_of, only_name}
+use Rattle.pddl_trees.specs.Sections.{domain_sections, objects_in, requirements_faults, sections_of, word_and_repeat_faults}
+use Rattle.pddl_trees.specs.Frames.{definition_in, definition_of, definition_word_faults, frame_of}
+use Rattle.pddl_trees.specs.Domains.{domain_in, domain_of_sections, domain_tree, functions_in, predicates_in, types_in}
+use Rattle.pddl_trees.specs.Actions.{schemas_in}
 
 -- it has a fault, or it is there
 abbrev pub IsThere : (A : Type 0) → Parsed A → Type 0

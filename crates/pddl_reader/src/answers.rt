@@ -1,13 +1,14 @@
 //! The first fault of a text as it is answered.
 
 ghost use Rattle.std.specs.Prelude.{◌≡◌, IfOk, drop, length, map, take};
-ghost use Rattle.sexp_text.specs.Pieces.{folded};
+ghost use Rattle.num_ends.specs.Names.{folded};
 ghost use Rattle.sexp_text.specs.Reading.{word_len};
-ghost use Rattle.pddl_reader.specs.Texts.{fault_answer, word_from};
+ghost use Rattle.pddl_reader.specs.Answers.{fault_answer, word_from};
 
-use crate::faults::{Fault, ReadFault, Reason};
-use crate::forms::name;
+use crate::faults::ReadFault;
 use num_ends::NoMemory;
+use pddl_trees::faults::{Fault, Reason};
+use pddl_trees::forms::name;
 use sexp_text::belongs_to_word;
 use std::alloc::Global;
 
@@ -30,19 +31,16 @@ fn word_from(text: &[u8], at: u32) -> &[u8]
     &behind[..word_length(behind)]
 }
 
-impl Fault {
-    /// The fault with the word at its place, where it is about a word.
-    pub(crate) fn answer(self, alloc: Global, text: &[u8]) -> Result<ReadFault, NoMemory>
-        ensures { IfOk result (λ fault. fault ≡ fault_answer text.now self.at self.reason) }
-    {
-        Ok(match self.reason {
-            Reason::Number => ReadFault::Number(self.at),
-            Reason::TooMany(what) => ReadFault::TooMany(what, self.at),
-            Reason::Unsupported => {
-                ReadFault::Unsupported(name(alloc, self.at, word_from(text, self.at))?)
-            }
-            Reason::Shape => ReadFault::Shape(self.at),
-            Reason::TooDeep => ReadFault::TooDeep(self.at),
-        })
-    }
+/// A fault as it is answered, with the word at its place where it is about a word.
+pub(crate) fn answer_of(alloc: Global, text: &[u8], fault: Fault) -> Result<ReadFault, NoMemory>
+    ensures { IfOk result (λ answer. answer ≡ fault_answer text.now fault.at fault.reason) }
+{
+    let Fault { at, reason } = fault;
+    Ok(match reason {
+        Reason::Number => ReadFault::Number(at),
+        Reason::TooMany(what) => ReadFault::TooMany(what, at),
+        Reason::Unsupported => ReadFault::Unsupported(name(alloc, at, word_from(text, at))?),
+        Reason::Shape => ReadFault::Shape(at),
+        Reason::TooDeep => ReadFault::TooDeep(at),
+    })
 }

@@ -1,31 +1,34 @@
 //! The sections of a domain read as data.
 
 ghost use Rattle.std.specs.Prelude.{◌≡◌, ◌++◌, IfOk, None, OnOk, option_map};
-ghost use Rattle.pddl_reader.specs.Faults.{all_noted};
-ghost use Rattle.pddl_reader.specs.Forms.{forms_of};
-ghost use Rattle.pddl_reader.specs.DomainParts.{domain_of_parts};
-ghost use Rattle.pddl_reader.specs.Sections.{domain_sections, repeated_sections};
-ghost use Rattle.pddl_reader.specs.Texts.{all_leaves, domain_in, domain_tree, functions_in, further_trees, objects_in, predicates_in, requirements_faults, schemas_in, sections_of, types_in, word_and_repeat_faults};
+ghost use Rattle.pddl_trees.specs.Faults.{all_noted};
+ghost use Rattle.pddl_trees.specs.Trees.{forms_of};
+ghost use Rattle.pddl_reader.specs.internal.DomainParts.{domain_of_parts};
+ghost use Rattle.pddl_trees.specs.Sections.{domain_sections, repeated_sections, objects_in, requirements_faults, sections_of, word_and_repeat_faults};
+ghost use Rattle.pddl_trees.specs.Leaves.{all_leaves};
+ghost use Rattle.pddl_trees.specs.Domains.{domain_in, domain_tree, functions_in, predicates_in, types_in};
+ghost use Rattle.pddl_trees.specs.Frames.{further_trees};
+ghost use Rattle.pddl_trees.specs.Actions.{schemas_in};
 
-use crate::declarations::{note_requirements, predicates_list};
-use crate::faults::Reason;
-use crate::first::Notes;
-use crate::forms::{note_extra, position};
 use crate::frames::frame;
-use crate::functions::functions_list;
-use crate::kinds::Kind;
-use crate::leaves::note_all_leaves;
-use crate::names::parts_of;
-use crate::schemas::schemas;
-use crate::sections::{Side, named, note_repeats};
-use crate::typed::typed_list;
-use crate::types::types_list;
 use num_ends::{List, NoMemory};
+use pddl_actions::schemas::schemas;
+use pddl_declarations::declarations::{note_requirements, predicates_list};
+use pddl_declarations::functions::functions_list;
+use pddl_declarations::kinds::Kind;
+use pddl_declarations::sections::{Side, named, note_repeats};
+use pddl_declarations::typed::typed_list;
+use pddl_declarations::types::types_list;
 use pddl_terms::{Domain, Name, Schema, Sig, Typed};
+use pddl_trees::faults::Reason;
+use pddl_trees::forms::{note_extra, position};
+use pddl_trees::leaves::note_all_leaves;
+use pddl_trees::names::parts_of;
+use pddl_trees::notes::Notes;
 use sexp_text::Tree;
 use std::alloc::Global;
 
-#[tactic(auto, using(crate::proofs::Noted::noted_append))]
+#[tactic(auto, using(pddl_trees::proofs::Noted::noted_append))]
 fn note_domain_repeats(text: &[u8], sections: &[Tree], notes: &mut Notes)
     ensures { notes.new.first ≡ all_noted notes.old.first (repeated_sections text.now domain_sections sections.now) }
 {
@@ -37,7 +40,7 @@ fn note_domain_repeats(text: &[u8], sections: &[Tree], notes: &mut Notes)
 }
 
 // What is no section of a domain, or stands a second time, and the requirements.
-#[tactic(auto, using(crate::proofs::Noted::noted_append))]
+#[tactic(auto, using(pddl_trees::proofs::Noted::noted_append))]
 fn note_domain_sections(text: &[u8], sections: &[Tree], notes: &mut Notes)
     ensures { notes.new.first ≡ all_noted notes.old.first (word_and_repeat_faults text.now domain_sections sections.now) }
 {
@@ -177,7 +180,7 @@ fn domain_tree(
 }
 
 // The first tree of a text as a domain; all its trees are these.
-#[tactic(auto, using(crate::proofs::Walks::noted_after))]
+#[tactic(auto, using(pddl_trees::proofs::Walks::noted_after))]
 fn first_tree(
     alloc: Global,
     text: &[u8],

@@ -24,28 +24,6 @@ pub enum ReadFault {
     NoMemory,
 }
 
-/// What is wrong at a place.
-#[derive(Clone, Copy, Debug, PartialEq, Eq)]
-pub enum Reason {
-    /// A number that can't be read, or has more than 9 places, or is out of range.
-    Number,
-    /// One more than a limit allows.
-    TooMany(What),
-    /// A word of PDDL that this planner doesn't take.
-    Unsupported,
-    /// A tree that doesn't fit, or a list in which a part is missing.
-    Shape,
-    /// An expression or a condition that is more than 400 high.
-    TooDeep,
-}
-
-/// A reason and the position in bytes where it stands.
-#[derive(Clone, Copy, Debug, PartialEq, Eq)]
-pub struct Fault {
-    pub at: u32,
-    pub reason: Reason,
-}
-
 impl From<AllocError> for ReadFault {
     ghost use Rattle.std.specs.Prelude.{◌≡◌};
     ghost use Rattle.pddl_reader.specs.declared.faults.ReadFault.TheVariants.{NoMemory};

@@ -1,16 +1,16 @@
 //! The frame of a text: `(define (WORD NAME) section ..)`.
 
 ghost use Rattle.std.specs.Prelude.{◌≡◌, IfOk, OnOk};
-ghost use Rattle.pddl_reader.specs.Faults.{all_noted};
-ghost use Rattle.pddl_reader.specs.Forms.{forms_of};
-ghost use Rattle.pddl_reader.specs.Texts.{definition_in, definition_of, definition_word_faults, frame_of};
+ghost use Rattle.pddl_trees.specs.Faults.{all_noted};
+ghost use Rattle.pddl_trees.specs.Trees.{forms_of};
+ghost use Rattle.pddl_trees.specs.Frames.{definition_in, definition_of, definition_word_faults, frame_of};
 
-use crate::faults::Reason;
-use crate::first::Notes;
-use crate::forms::position;
-use crate::names::{is_leaf, only_name, parts_of};
 use num_ends::NoMemory;
 use pddl_terms::Name;
+use pddl_trees::faults::Reason;
+use pddl_trees::forms::position;
+use pddl_trees::names::{is_leaf, only_name, parts_of};
+use pddl_trees::notes::Notes;
 use sexp_text::Tree;
 use std::alloc::Global;
 
@@ -75,7 +75,7 @@ fn definition(
 }
 
 /// What a list at a position says in front of its sections: the name of the domain or the problem.
-#[tactic(auto, using(crate::proofs::Noted::noted_append))]
+#[tactic(auto, using(pddl_trees::proofs::Noted::noted_append))]
 pub(crate) fn frame(
     alloc: Global,
     text: &[u8],

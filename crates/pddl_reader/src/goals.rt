@@ -1,22 +1,23 @@
 //! The goal and the metric of a problem.
 
 ghost use Rattle.std.specs.Prelude.{◌≡◌, [], ◌∷◌, None, flat_map, take, if◌then◌else◌, IfOk, OnOk};
-ghost use Rattle.pddl_reader.specs.Faults.{all_noted};
-ghost use Rattle.pddl_reader.specs.Forms.{form_of, forms_of, shape_at};
-ghost use Rattle.pddl_reader.specs.Sections.{goal_of, is_direction, metric_faults};
+ghost use Rattle.pddl_trees.specs.Faults.{all_noted};
+ghost use Rattle.pddl_trees.specs.Trees.{form_of, forms_of};
+ghost use Rattle.pddl_trees.specs.Forms.{shape_at};
+ghost use Rattle.pddl_trees.specs.Goals.{goal_of, is_direction, metric_faults};
 
-use crate::faults::Reason;
-use crate::fine::fine_condition;
-use crate::first::Notes;
-use crate::forms::{note_count, note_extra, position};
-use crate::names::is_leaf;
 use num_ends::NoMemory;
+use pddl_expressions::fine::fine_condition;
 use pddl_terms::Cond;
+use pddl_trees::faults::Reason;
+use pddl_trees::forms::{note_count, note_extra, position};
+use pddl_trees::names::is_leaf;
+use pddl_trees::notes::Notes;
 use sexp_text::Tree;
 use std::alloc::Global;
 
 /// The one condition of a list at a position, where no fault is noted; what doesn't fit is noted.
-#[tactic(auto, using(crate::proofs::Noted::noted_append, crate::proofs::Quiet::quiet_behind))]
+#[tactic(auto, using(pddl_trees::proofs::Noted::noted_append, pddl_trees::proofs::Quiet::quiet_behind))]
 pub(crate) fn goal(
     alloc: Global,
     text: &[u8],
@@ -50,7 +51,7 @@ fn note_direction(text: &[u8], tree: &Tree, notes: &mut Notes)
 }
 
 /// Notes what doesn't fit in a metric at a position, whose second tree isn't looked at.
-#[tactic(auto, using(crate::proofs::Noted::noted_append))]
+#[tactic(auto, using(pddl_trees::proofs::Noted::noted_append))]
 pub(crate) fn note_metric(text: &[u8], at: u32, trees: &[Tree], notes: &mut Notes)
     ensures { notes.new.first ≡ all_noted notes.old.first (metric_faults at (forms_of text.now trees.now)) }
 {

@@ -1,21 +1,22 @@
 //! Entries of the initial state.
 
 ghost use Rattle.std.specs.Prelude.{codes, ◌≡◌, [], ◌∷◌, ◌++◌, None, bytes_eq, filter_map, flat_map, IfOk, OnOk, drop, map, take, if◌then◌else◌};
-ghost use Rattle.sexp_text.specs.Pieces.{folded};
-ghost use Rattle.pddl_reader.specs.EntrySteps.{fact_said, value_said};
-ghost use Rattle.pddl_reader.specs.Faults.{all_noted};
-ghost use Rattle.pddl_reader.specs.Forms.{both, form_of, forms_of, shape_at};
-ghost use Rattle.pddl_reader.specs.Lists.{one_item};
-ghost use Rattle.pddl_reader.specs.Sections.{begins_with_number, entry_of, entry_parts, ground_atom, headed_entry, is_number_leaf, negative_entry, number_leaf, place_of, value_entry, value_in};
+ghost use Rattle.num_ends.specs.Names.{folded};
+ghost use Rattle.pddl_reader.specs.internal.EntrySteps.{fact_said, value_said};
+ghost use Rattle.pddl_trees.specs.Faults.{all_noted};
+ghost use Rattle.pddl_trees.specs.Forms.{both, shape_at};
+ghost use Rattle.pddl_trees.specs.Trees.{form_of, forms_of, place_of};
+ghost use Rattle.pddl_trees.specs.Declarations.{one_item};
+ghost use Rattle.pddl_trees.specs.Initial.{begins_with_number, entry_of, entry_parts, ground_atom, headed_entry, is_number_leaf, negative_entry, number_leaf, value_entry, value_in};
 
-use crate::atoms::atom;
-use crate::faults::Reason;
-use crate::first::Notes;
-use crate::forms::{note_extra, note_missing, position, word_of};
-use crate::names::parts_of;
-use crate::words::{is_number_word, number_in};
 use num_ends::{Dec, List, NoMemory};
+use pddl_expressions::atoms::atom;
 use pddl_terms::Atom;
+use pddl_trees::faults::Reason;
+use pddl_trees::forms::{note_extra, note_missing, position, word_of};
+use pddl_trees::names::parts_of;
+use pddl_trees::notes::Notes;
+use pddl_trees::words::{is_number_word, number_in};
 use sexp_text::{Tree, is_word};
 use std::alloc::Global;
 
@@ -108,7 +109,7 @@ fn made(fluent: Option<Atom>, number: Option<Dec>) -> Entry
 }
 
 // Reads an entry that says that an atom is false, from the trees behind its word.
-#[tactic(auto, using(crate::proofs::Noted::noted_append))]
+#[tactic(auto, using(pddl_trees::proofs::Noted::noted_append))]
 fn negative_entry(
     alloc: Global,
     text: &[u8],
@@ -129,7 +130,7 @@ fn negative_entry(
 }
 
 // Reads a fluent with its value, from the trees behind the entry's word.
-#[tactic(auto, using(crate::proofs::Noted::noted_append))]
+#[tactic(auto, using(pddl_trees::proofs::Noted::noted_append))]
 fn value_entry(
     alloc: Global,
     text: &[u8],

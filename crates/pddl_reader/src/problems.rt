@@ -2,28 +2,32 @@
 
 ghost use Rattle.std.specs.Prelude.{◌≡◌, ◌++◌, IfOk, None, OnOk, drop, flat_map, take};
 ghost use Rattle.std.specs.List.{filter_map};
-ghost use Rattle.pddl_reader.specs.Faults.{all_noted};
-ghost use Rattle.pddl_reader.specs.Forms.{both};
-ghost use Rattle.pddl_reader.specs.ProblemParts.{problem_of_parts};
-ghost use Rattle.pddl_reader.specs.Sections.{problem_sections, repeated_sections};
-ghost use Rattle.pddl_reader.specs.Texts.{all_leaves, domain_name_faults, entries_in, further_trees, goal_in, metric_in, needed_section, problem_in, problem_leaves, problem_parts, problem_tree, section_leaves, sections_of, word_and_repeat_faults};
+ghost use Rattle.pddl_trees.specs.Faults.{all_noted};
+ghost use Rattle.pddl_trees.specs.Forms.{both};
+ghost use Rattle.pddl_reader.specs.internal.ProblemParts.{problem_of_parts};
+ghost use Rattle.pddl_trees.specs.Sections.{problem_sections, repeated_sections, sections_of, word_and_repeat_faults};
+ghost use Rattle.pddl_trees.specs.Leaves.{all_leaves};
+ghost use Rattle.pddl_trees.specs.Problems.{domain_name_faults, needed_section, problem_in, problem_leaves, problem_parts, problem_tree, section_leaves};
+ghost use Rattle.pddl_trees.specs.Initial.{entries_in};
+ghost use Rattle.pddl_trees.specs.Frames.{further_trees};
+ghost use Rattle.pddl_trees.specs.Goals.{goal_in, metric_in};
 
 use crate::domains::{behind_frame, note_required, objects};
-use crate::faults::Reason;
-use crate::first::Notes;
-use crate::forms::{note_extra, position};
 use crate::frames::frame;
 use crate::goals::{goal, note_metric};
 use crate::initial::{Initial, entries};
-use crate::leaves::{note_all_leaves, note_leaves};
-use crate::names::{is_headed, only_name, parts_of};
-use crate::sections::{Side, content_of, named, note_repeats, section_named};
 use num_ends::{List, NoMemory};
+use pddl_declarations::sections::{Side, content_of, named, note_repeats, section_named};
 use pddl_terms::{Cond, Name, Problem, Typed};
+use pddl_trees::faults::Reason;
+use pddl_trees::forms::{note_extra, position};
+use pddl_trees::leaves::{note_all_leaves, note_leaves};
+use pddl_trees::names::{is_headed, only_name, parts_of};
+use pddl_trees::notes::Notes;
 use sexp_text::Tree;
 use std::alloc::Global;
 
-#[tactic(auto, using(crate::proofs::Noted::noted_append))]
+#[tactic(auto, using(pddl_trees::proofs::Noted::noted_append))]
 fn note_problem_repeats(text: &[u8], sections: &[Tree], notes: &mut Notes)
     ensures { notes.new.first ≡ all_noted notes.old.first (repeated_sections text.now problem_sections sections.now) }
 {
@@ -36,7 +40,7 @@ fn note_problem_repeats(text: &[u8], sections: &[Tree], notes: &mut Notes)
 }
 
 // What is no section of a problem, or stands a second time.
-#[tactic(auto, using(crate::proofs::Noted::noted_append))]
+#[tactic(auto, using(pddl_trees::proofs::Noted::noted_append))]
 fn note_problem_sections(text: &[u8], sections: &[Tree], notes: &mut Notes)
     ensures { notes.new.first ≡ all_noted notes.old.first (word_and_repeat_faults text.now problem_sections sections.now) }
 {
@@ -195,7 +199,7 @@ fn problem_tree(
 }
 
 // The leaves of a metric but for its tree.
-#[tactic(auto, using(crate::proofs::Walks::noted_after))]
+#[tactic(auto, using(pddl_trees::proofs::Walks::noted_after))]
 fn note_metric_leaves(text: &[u8], parts: &[Tree], notes: &mut Notes)
     ensures { notes.new.first ≡ all_noted notes.old.first (all_leaves text.now (take 2 parts.now) ++ all_leaves text.now (drop 3 parts.now)) }
 {
@@ -224,7 +228,7 @@ fn note_sections_leaves(text: &[u8], sections: &[Tree], notes: &mut Notes)
     }
 }
 
-#[tactic(auto, using(crate::proofs::Walks::noted_after))]
+#[tactic(auto, using(pddl_trees::proofs::Walks::noted_after))]
 fn note_parts_leaves(text: &[u8], parts: &[Tree], notes: &mut Notes)
     ensures { notes.new.first ≡ all_noted notes.old.first (all_leaves text.now (take 2 parts.now) ++ flat_map (section_leaves text.now) (sections_of parts.now)) }
 {
@@ -243,7 +247,7 @@ fn note_problem_leaves(text: &[u8], tree: &Tree, notes: &mut Notes)
 }
 
 // The first tree of a text as a problem; these are the further ones, and all of them.
-#[tactic(auto, using(crate::proofs::Walks::noted_after))]
+#[tactic(auto, using(pddl_trees::proofs::Walks::noted_after))]
 fn first_tree(
     alloc: Global,
     text: &[u8],

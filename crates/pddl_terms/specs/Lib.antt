@@ -1,1 +1,4 @@
 pub mod Heights
+pub mod Limits
+pub mod Readable
+pub mod Texts

@@ -5,3 +5,5 @@ pub mod Depths
 pub mod Walks
 pub mod TreesRead
 pub mod OneAnswer
+pub mod SomeAnswer
+pub mod Counts

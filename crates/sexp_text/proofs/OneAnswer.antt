@@ -182,34 +182,30 @@ trees_not_unclosed text ts p a x =
 pub one_list : (text : List ℕ) (ts us : List Tree) → AreTrees text ts → AreTrees text us → ts ≡ us
 one_list text ts us a b = same_trees ts us (same_allowed (marks_of_all ts) (marks_of_all us) (sym a.marks_are ∙ b.marks_are))
 
-pub no_fault : (text : List ℕ) (ts : List Tree) (f : SexpFault) → AreTrees text ts → IsTextFault text f → f ≡ faults.NoMemory
-no_fault text ts (faults.Unclosed p) a x = absurd (trees_not_unclosed text ts p a x)
-no_fault text ts (faults.Stray p) a x = absurd (trees_not_first text ts (faults.Stray p) a x)
-no_fault text ts (faults.BadByte p) a x = absurd (trees_not_first text ts (faults.BadByte p) a x)
-no_fault text ts (faults.TooDeep p) a x = absurd (trees_not_first text ts (faults.TooDeep p) a x)
-no_fault text ts faults.NoMemory a x = refl
+pub no_fault : (text : List ℕ) (ts : List Tree) (f : SexpFault) → AreTrees text ts → IsTextFault text f → ⊥
+no_fault text ts (faults.Unclosed p) a x = trees_not_unclosed text ts p a x
+no_fault text ts (faults.Stray p) a x = trees_not_first text ts (faults.Stray p) a x
+no_fault text ts (faults.BadByte p) a x = trees_not_first text ts (faults.BadByte p) a x
+no_fault text ts (faults.TooDeep p) a x = trees_not_first text ts (faults.TooDeep p) a x
+no_fault text ts faults.NoMemory a x = x
 
 -- a first fault of the text, by cases
 data FaultKind : List ℕ → SexpFault → Type 0 where
   first : {text : List ℕ} {f : SexpFault} → IsFirstFault (seen_from text 0) f → FaultKind text f
   unclosed : {text : List ℕ} {p : ℕ} → IsUnclosed (seen_from text 0) p → FaultKind text (faults.Unclosed p)
-  no_memory : {text : List ℕ} → FaultKind text faults.NoMemory
 
 kind_of : (text : List ℕ) (f : SexpFault) → IsTextFault text f → FaultKind text f
 kind_of text (faults.Unclosed p) x = unclosed x
 kind_of text (faults.Stray p) x = first x
 kind_of text (faults.BadByte p) x = first x
 kind_of text (faults.TooDeep p) x = first x
-kind_of text faults.NoMemory x = no_memory
+kind_of text faults.NoMemory x = absurd x
 
-same_kind : (text : List ℕ) (f g : SexpFault) → FaultKind text f → FaultKind text g → (f ≡ faults.NoMemory → ⊥) → (g ≡ faults.NoMemory → ⊥) → f ≡ g
-same_kind text f g (first x) (first y) nf ng = one_first (seen_from text 0) f g x y
-same_kind text f _ (first x) (unclosed {p = p} y) nf ng = absurd (first_not_unclosed (seen_from text 0) f p x y)
-same_kind text f _ (first x) no_memory nf ng = absurd (ng refl)
-same_kind text _ g (unclosed {p = p} x) (first y) nf ng = absurd (first_not_unclosed (seen_from text 0) g p y x)
-same_kind text _ _ (unclosed {p = p} x) (unclosed {p = q} y) nf ng = ap (λ (n : ℕ). faults.Unclosed n) (one_unclosed (seen_from text 0) p q x y)
-same_kind text _ _ (unclosed x) no_memory nf ng = absurd (ng refl)
-same_kind text _ g no_memory y nf ng = absurd (nf refl)
+same_kind : (text : List ℕ) (f g : SexpFault) → FaultKind text f → FaultKind text g → f ≡ g
+same_kind text f g (first x) (first y) = one_first (seen_from text 0) f g x y
+same_kind text f _ (first x) (unclosed {p = p} y) = absurd (first_not_unclosed (seen_from text 0) f p x y)
+same_kind text _ g (unclosed {p = p} x) (first y) = absurd (first_not_unclosed (seen_from text 0) g p y x)
+same_kind text _ _ (unclosed {p = p} x) (unclosed {p = q} y) = ap (λ (n : ℕ). faults.Unclosed n) (one_unclosed (seen_from text 0) p q x y)
 
-pub one_fault : (text : List ℕ) (f g : SexpFault) → IsTextFault text f → IsTextFault text g → (f ≡ faults.NoMemory → ⊥) → (g ≡ faults.NoMemory → ⊥) → f ≡ g
-one_fault text f g x y nf ng = same_kind text f g (kind_of text f x) (kind_of text g y) nf ng
+pub one_fault : (text : List ℕ) (f g : SexpFault) → IsTextFault text f → IsTextFault text g → f ≡ g
+one_fault text f g x y = same_kind text f g (kind_of text f x) (kind_of text g y)

@@ -6,7 +6,8 @@ use Rattle.std.proofs.lemmas.Bool.{cond-true, cond-false, eqb-true, cases_Bool, 
 use Rattle.std.proofs.lemmas.Bool.Decides.{nat_tests}
 use Rattle.std.proofs.lemmas.Option.{same_Some}
 use Rattle.std.proofs.lemmas.List.{take_at, drop_at}
-use Rattle.sexp_text.specs.Pieces.{Token, Opening, Closing, Leaf, Piece, Blank, Comment, Open, Close, Word, bytes_of, is_piece, may_follow, is_split, is_blank_byte, is_word_byte, folded, IsTextOf, token_of, SpellsTokens}
+use Rattle.num_ends.specs.Names.{folded}
+use Rattle.sexp_text.specs.Pieces.{Token, Opening, Closing, Leaf, Piece, Blank, Comment, Open, Close, Word, bytes_of, is_piece, may_follow, is_split, is_blank_byte, is_word_byte, IsTextOf, token_of, SpellsTokens}
 use Rattle.sexp_text.specs.Reading.{Item, Says, Bad, is_gap_byte, comment_after, begins_word, word_len, items_from, items_at, items_of_pieces, tokens_said}
 use Rattle.sexp_text.proofs.Steps.{word_front, word_byte_items}
 

@@ -4,7 +4,8 @@ use Rattle.std.proofs.lemmas.Bool.{cond-true, cond-false, eq-eqb, ne_eqb, cases_
 use Rattle.std.proofs.lemmas.Bool.Decides.{nat_tests}
 use Rattle.std.proofs.lemmas.List.{drop_more, drop_all, drop-drop}
 use Rattle.std.specs.Prelude.{slice_range}
-use Rattle.sexp_text.specs.Pieces.{Opening, Closing, Leaf, is_word_byte, folded}
+use Rattle.num_ends.specs.Names.{folded}
+use Rattle.sexp_text.specs.Pieces.{Opening, Closing, Leaf, is_word_byte}
 use Rattle.sexp_text.specs.Reading.{Item, Says, Bad, is_gap_byte, comment_after, begins_word, word_len, with_word, items_from, items_at}
 
 -- the items from a byte on that is a blank or stands in a comment

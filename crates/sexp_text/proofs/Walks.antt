@@ -1,6 +1,5 @@
 -- Induction over trees, and the depth through their marks.
 use Rattle.std.proofs.Common.{◌≡◌, ℕ, zero, suc, ◌+◌, ◌-◌, ◌≤◌, cond, List, [], ◌∷◌, ◌++◌, length, map, All, Option, Some, None, refl, sym, ap, subst, ◌∙◌, append_assoc, arith}
-use Rattle.std.specs.List.{flat_map}
 use Rattle.std.specs.Option.{option_and_then}
 use Rattle.std.proofs.lemmas.Option.{same_Some}
 use Rattle.std.proofs.lemmas.List.{append-nil}
@@ -11,10 +10,8 @@ use Rattle.sexp_text.specs.declared.marks.Span.{Span}
 use Rattle.sexp_text.specs.declared.marks.Marked.{Marked}
 use Rattle.sexp_text.specs.declared.trees.Tree.{Tree, Tree-F, ind-Tree, map-Tree, roll-Tree}
 use Rattle.sexp_text.specs.declared.trees.Tree.TheVariants as trees
-use Rattle.sexp_text.specs.declared.reading.Outer.{Outer}
 use Rattle.sexp_text.specs.Trees.{marked, is_opening, is_closing, marks_of, marks_of_all}
-use Rattle.sexp_text.specs.Open.{outer_marks}
-use Rattle.sexp_text.proofs.TreeMarks.{marks_of-Leaf, marks_of-List}
+use Rattle.sexp_text.proofs.TreeMarks.{open_marks, marks_of-Leaf, marks_of-List}
 use Rattle.sexp_text.proofs.Depths.{openings, closings, through_some, length-filter}
 
 -- what holds of each item stands beside it
@@ -114,21 +111,32 @@ trees_balance ts =
     let counts = levels_count (marks_of_all ts) 0 0 level in
     omega arith
 
+-- ---- brackets that are open
+
+pub open_first : {X : Type 0} (before : X → List Tree) (bracket : X → ℕ) (o : X) (os : List X) (ts : List Tree)
+    → open_marks before bracket (o ∷ os) ++ marks_of_all ts
+    ≡ marks_of_all (before o) ++ marked marks.Opening (bracket o) (bracket o + 1) ∷ (open_marks before bracket os ++ marks_of_all ts)
+open_first before bracket o os ts =
+    let first : Marked = marked marks.Opening (bracket o) (bracket o + 1) in
+    append_assoc (marks_of_all (before o) ++ first ∷ []) (open_marks before bracket os) (marks_of_all ts)
+    ∙ append_assoc (marks_of_all (before o)) (first ∷ []) (open_marks before bracket os ++ marks_of_all ts)
+
 -- behind a bracket that is open, the level does not fall below it
-outers_level : (os : List Outer) (ts : List Tree) (level : ℕ) → level_through level (flat_map outer_marks os ++ marks_of_all ts) ≡ Some (level + length os)
-outers_level [] ts level =
+open_level : {X : Type 0} (before : X → List Tree) (bracket : X → ℕ) (os : List X) (ts : List Tree) (level : ℕ)
+    → level_through level (open_marks before bracket os ++ marks_of_all ts) ≡ Some (level + length os)
+open_level before bracket [] ts level =
     let place : level ≡ level + 0 = omega arith in
     ap (level_through level) (sym (append-nil (marks_of_all ts))) ∙ trees_keep_level ts level [] ∙ ap (λ (n : ℕ). Some n) place
-outers_level (o ∷ os) ts level =
-    let bracket : Marked = marked marks.Opening o.bracket (o.bracket + 1) in
-    let rest = flat_map outer_marks os ++ marks_of_all ts in
+open_level before bracket (o ∷ os) ts level =
+    let first : Marked = marked marks.Opening (bracket o) (bracket o + 1) in
+    let rest = open_marks before bracket os ++ marks_of_all ts in
     let place : suc level + length os ≡ level + suc (length os) = omega arith in
-    ap (level_through level) (append_assoc (outer_marks o) (flat_map outer_marks os) (marks_of_all ts) ∙ append_assoc (marks_of_all o.trees.items) (bracket ∷ []) rest)
-    ∙ trees_keep_level o.trees.items level (bracket ∷ rest) ∙ outers_level os ts (suc level) ∙ ap (λ (n : ℕ). Some n) place
+    ap (level_through level) (open_first before bracket o os ts)
+    ∙ trees_keep_level (before o) level (first ∷ rest) ∙ open_level before bracket os ts (suc level) ∙ ap (λ (n : ℕ). Some n) place
 
-pub front_level : (os : List Outer) (ts : List Tree) (front more : List Marked) → flat_map outer_marks os ++ marks_of_all ts ≡ front ++ more
-    → closings front ≤ openings front
-front_level os ts front more split =
-    let part = level-append front more 0 (0 + length os) (ap (level_through 0) (sym split) ∙ outers_level os ts 0) in
+pub front_level : {X : Type 0} (before : X → List Tree) (bracket : X → ℕ) (os : List X) (ts : List Tree) (front more : List Marked)
+    → open_marks before bracket os ++ marks_of_all ts ≡ front ++ more → closings front ≤ openings front
+front_level before bracket os ts front more split =
+    let part = level-append front more 0 (0 + length os) (ap (level_through 0) (sym split) ∙ open_level before bracket os ts 0) in
     let counts = levels_count front 0 part.0 part.1 in
     omega arith

@@ -1,6 +1,7 @@
 -- The pieces of a text: blanks, comments, brackets and words, and the tokens that they are.
-use Rattle.std.specs.Prelude.{ℕ, ◌≡◌, ◌+◌, ◌&&◌, ◌||◌, ◌==◌, Bool, true, false, not, List, [], ◌∷◌, Option, Some, None, map, flat_map, filter_map, IsTrue, nat_le, if◌then◌else◌}
+use Rattle.std.specs.Prelude.{ℕ, ◌≡◌, ◌&&◌, ◌||◌, ◌==◌, Bool, true, false, not, List, [], ◌∷◌, Option, Some, None, map, flat_map, filter_map, IsTrue, nat_le}
 use Rattle.std.specs.List.{list_all}
+use Rattle.num_ends.specs.Names.{folded}
 
 -- a space, a tab, a line feed or a carriage return
 abbrev pub is_blank_byte : ℕ → Bool
@@ -9,10 +10,6 @@ is_blank_byte b = b == 32 || b == 9 || b == 10 || b == 13
 -- a visible byte of ASCII but for brackets and `;`
 abbrev pub is_word_byte : ℕ → Bool
 is_word_byte b = nat_le 33 b && nat_le b 126 && not (b == 40) && not (b == 41) && not (b == 59)
-
--- an upper-case letter as the lower-case one
-abbrev pub folded : ℕ → ℕ
-folded b = if nat_le 65 b && nat_le b 90 then b + 32 else b
 
 pub data Piece : Type 0 where
   Blank : ℕ → Piece

@@ -1,7 +1,8 @@
 -- The exact reading of a text from the front: what stands in it, and from which byte to which.
 use Rattle.std.specs.Prelude.{ℕ, suc, ◌≡◌, ◌+◌, ◌==◌, ◌||◌, Bool, true, false, not, List, [], ◌∷◌, ◌++◌, Option, Some, None, Result, Ok, Err, map, drop, take, length, slice_range, option_map, if◌then◌else◌}
 use Rattle.std.specs.List.{prefix_len}
-use Rattle.sexp_text.specs.Pieces.{Token, Opening, Closing, Leaf, Piece, Blank, Comment, Open, Close, Word, bytes_of, is_blank_byte, is_word_byte, folded}
+use Rattle.num_ends.specs.Names.{folded}
+use Rattle.sexp_text.specs.Pieces.{Token, Opening, Closing, Leaf, Piece, Blank, Comment, Open, Close, Word, bytes_of, is_blank_byte, is_word_byte}
 use Rattle.sexp_text.specs.declared.marks.Mark.{Mark}
 use Rattle.sexp_text.specs.declared.marks.Mark.TheVariants as marks
 use Rattle.sexp_text.specs.declared.marks.Marked.{Marked}

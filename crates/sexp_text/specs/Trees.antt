@@ -97,9 +97,10 @@ pub record AreTrees (text : List ℕ) (trees : List Tree) : Type 0 where
   pub marks_are : seen_from text 0 ≡ all_allowed (marks_of_all trees)
   pub sound : IsSound (marks_of_all trees)
 
+-- the first fault of a text that has no trees; want of memory is no fault of a text
 abbrev pub IsTextFault : List ℕ → SexpFault → Type 0
 IsTextFault text (faults.Unclosed position) = IsUnclosed (seen_from text 0) position
 IsTextFault text (faults.Stray position) = IsFirstFault (seen_from text 0) (faults.Stray position)
 IsTextFault text (faults.BadByte position) = IsFirstFault (seen_from text 0) (faults.BadByte position)
 IsTextFault text (faults.TooDeep position) = IsFirstFault (seen_from text 0) (faults.TooDeep position)
-IsTextFault text faults.NoMemory = Unit {0}
+IsTextFault text faults.NoMemory = ⊥

@@ -13,7 +13,4 @@ pub use marks::{Mark, Marked, Span};
 pub use reading::read_trees;
 pub use scan::{belongs_to_word, is_blank, next_mark};
 pub use trees::{SexpFault, Tree};
-pub use words::{fold, folded_text, is_same_word, is_word};
-
-#[cfg(test)]
-mod tests;
+pub use words::is_word;

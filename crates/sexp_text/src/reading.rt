@@ -1,6 +1,6 @@
 //! Trees from marks in order, with a stack of the brackets that are open.
 
-ghost use Rattle.std.specs.Prelude.{◌≡◌, ◌+◌, ◌^◌, ◌<◌, ◌≤◌, ◌∷◌, [], ◌++◌, Some, None, IfErr, IfOk, OnOk, length};
+ghost use Rattle.std.specs.Prelude.{◌≡◌, ◌≢◌, ◌+◌, ◌^◌, ◌<◌, ◌≤◌, ◌∷◌, [], ◌++◌, Some, None, IfErr, IfOk, OnOk, length};
 ghost use Rattle.sexp_text.specs.declared.marks.Mark.TheVariants as marks;
 ghost use Rattle.sexp_text.specs.declared.trees.SexpFault.TheVariants as faults;
 ghost use Rattle.sexp_text.specs.Reading.{IsPlaced};
@@ -104,11 +104,12 @@ impl Reading {
 
 /// The trees of a text in order, of which there are none where a byte isn't allowed outside a comment, a bracket has no
 /// partner, or more than 64 brackets are open at once. The first fault in the order of the text is answered, and a
-/// bracket that isn't closed where there is no other fault. Without memory for the trees there is an error too.
+/// bracket that isn't closed where there is no other fault. Without memory for the trees the error says so, and nothing
+/// of the text.
 pub fn read_trees(alloc: Global, bytes: &[u8]) -> Result<Vec<Tree>, SexpFault>
     requires { length bytes.now ≤ 2 ^ 30 }
     ensures trees { IfOk result (λ trees. AreTrees bytes.now trees.items) }
-    ensures fault { IfErr result (λ fault. IsTextFault bytes.now fault) }
+    ensures fault { IfErr result (λ fault. fault ≢ faults.NoMemory → IsTextFault bytes.now fault) }
 {
     let mut reading = Reading {
         outer: Vec::new(alloc),

@@ -1,12 +1,14 @@
 use Rattle.std.proofs.Common.{◌≡◌, List, ◌++◌, Option, None, codes, subst}
 use Rattle.sexp_text.specs.declared.trees.Tree.{Tree}
-use Rattle.pddl_reader.specs.declared.faults.Fault.{Fault}
-use Rattle.pddl_reader.specs.Faults.{all_noted}
-use Rattle.pddl_reader.specs.Sections.{domain_sections}
-use Rattle.pddl_reader.specs.Texts.{frame_of, functions_in, objects_in, predicates_in, requirements_faults, schemas_in, sections_of, types_in, word_and_repeat_faults}
-use Rattle.pddl_reader.proofs.Quiet.{quiet_behind}
+use Rattle.pddl_trees.specs.declared.faults.Fault.{Fault}
+use Rattle.pddl_trees.specs.Faults.{all_noted}
+use Rattle.pddl_trees.specs.Sections.{domain_sections, objects_in, requirements_faults, sections_of, word_and_repeat_faults}
+use Rattle.pddl_trees.specs.Frames.{frame_of}
+use Rattle.pddl_trees.specs.Domains.{functions_in, predicates_in, types_in}
+use Rattle.pddl_trees.specs.Actions.{schemas_in}
+use Rattle.pddl_trees.proofs.Quiet.{quiet_behind}
 use Rattle.pddl_reader.proofs.DomainParts.{same_parts}
-use Rattle.pddl_reader.proofs.Walks.{noted_after}
+use Rattle.pddl_trees.proofs.Walks.{noted_after}
 use Rattle.pddl_reader.proofs.domains.domain_parts.Goals as goal
 
 pub returns-clause-faults : goal.returns-clause-faults

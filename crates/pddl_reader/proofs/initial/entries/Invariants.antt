@@ -1,7 +1,7 @@
 use Rattle.std.proofs.Common.{◌≡◌, ◌++◌, drop, map}
 use Rattle.std.specs.List.{filter_map, flat_map}
-use Rattle.pddl_reader.specs.Faults.{all_noted}
-use Rattle.pddl_reader.specs.Sections.{Entry, entry_of}
+use Rattle.pddl_trees.specs.Faults.{all_noted}
+use Rattle.pddl_trees.specs.Initial.{Entry, entry_of}
 use Rattle.pddl_reader.proofs.initial.entries.Given as goal
 
 abbrev pub invariant-each : goal.invariant-each

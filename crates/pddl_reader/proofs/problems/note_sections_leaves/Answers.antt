@@ -1,7 +1,7 @@
 use Rattle.std.proofs.Common.{◌∙◌}
-use Rattle.pddl_reader.specs.Texts.{section_leaves}
-use Rattle.pddl_reader.proofs.Noted.{walked}
-use Rattle.pddl_reader.proofs.Walks.{those_noted, with_those}
+use Rattle.pddl_trees.specs.Problems.{section_leaves}
+use Rattle.pddl_trees.proofs.Noted.{walked}
+use Rattle.pddl_trees.proofs.Walks.{those_noted, with_those}
 use Rattle.pddl_reader.proofs.problems.note_sections_leaves.Goals as goal
 
 pub returns : goal.returns

@@ -1,7 +1,7 @@
 use Rattle.std.proofs.Common.{◌≡◌, drop}
 use Rattle.std.specs.Prelude.{fold}
-use Rattle.pddl_reader.specs.Texts.{section_leaves}
-use Rattle.pddl_reader.proofs.Walks.{with_those}
+use Rattle.pddl_trees.specs.Problems.{section_leaves}
+use Rattle.pddl_trees.proofs.Walks.{with_those}
 use Rattle.pddl_reader.proofs.problems.note_sections_leaves.Given as goal
 
 abbrev pub invariant-each : goal.invariant-each

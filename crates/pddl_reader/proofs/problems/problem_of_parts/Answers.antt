@@ -1,13 +1,16 @@
 use Rattle.std.proofs.Common.{◌≡◌, List, ◌++◌, Option, None, codes, subst}
 use Rattle.std.specs.Prelude.{flat_map, filter_map}
 use Rattle.sexp_text.specs.declared.trees.Tree.{Tree}
-use Rattle.pddl_reader.specs.declared.faults.Fault.{Fault}
-use Rattle.pddl_reader.specs.Faults.{all_noted}
-use Rattle.pddl_reader.specs.Sections.{Entry, problem_sections}
-use Rattle.pddl_reader.specs.Texts.{domain_name_faults, entries_in, frame_of, goal_in, metric_in, needed_section, objects_in, requirements_faults, sections_of, word_and_repeat_faults}
-use Rattle.pddl_reader.proofs.Quiet.{quiet_behind}
+use Rattle.pddl_trees.specs.declared.faults.Fault.{Fault}
+use Rattle.pddl_trees.specs.Faults.{all_noted}
+use Rattle.pddl_trees.specs.Initial.{Entry, entries_in}
+use Rattle.pddl_trees.specs.Sections.{problem_sections, objects_in, requirements_faults, sections_of, word_and_repeat_faults}
+use Rattle.pddl_trees.specs.Problems.{domain_name_faults, needed_section}
+use Rattle.pddl_trees.specs.Frames.{frame_of}
+use Rattle.pddl_trees.specs.Goals.{goal_in, metric_in}
+use Rattle.pddl_trees.proofs.Quiet.{quiet_behind}
 use Rattle.pddl_reader.proofs.ProblemParts.{same_parts}
-use Rattle.pddl_reader.proofs.Walks.{noted_after}
+use Rattle.pddl_trees.proofs.Walks.{noted_after}
 use Rattle.pddl_reader.proofs.problems.problem_of_parts.Goals as goal
 
 pub returns-clause-faults : goal.returns-clause-faults

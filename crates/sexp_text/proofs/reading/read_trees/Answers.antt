@@ -36,9 +36,9 @@ pub returns-in-Ok-None-clause-fault : goal.returns-in-Ok-None-clause-fault
 returns-in-Ok-None-clause-fault c =
     let next = rw c.in-Ok-None.field-0-is at c.in-Ok-None.ensures in
     IfErr-weaker c.finish.result _ _
-    (λ fault h. is_left_open c.args.bytes.now c.loop-mark.at h.0 c.loop-mark.reading.outer.items c.loop-mark.reading.trees.items fault c.loop-mark.invariant.seen c.loop-mark.invariant.depth next.exact h.1 h.2)
+    (λ fault h _. is_left_open c.args.bytes.now c.loop-mark.at h.0 c.loop-mark.reading.outer.items c.loop-mark.reading.trees.items fault c.loop-mark.invariant.seen c.loop-mark.invariant.depth next.exact h.1 h.2)
     c.finish.ensures.err
 
 pub returns-in-Err-clause-fault : goal.returns-in-Err-clause-fault
-returns-in-Err-clause-fault c =
+returns-in-Err-clause-fault c = λ _.
     bad_byte c.args.bytes.now c.loop-mark.at c.in-Err.position (marks_read c.loop-mark.reading) (depth_of c.loop-mark.reading) c.loop-mark.invariant.seen c.loop-mark.invariant.depth c.in-Err.ensures.exact

@@ -1,6 +1,6 @@
 use Rattle.std.proofs.Common.{length, ◌-◌, ◌≡◌, ◌≤◌, drop, map}
 use Rattle.std.specs.Prelude.{bytes_eq}
-use Rattle.sexp_text.specs.Pieces.{folded}
+use Rattle.num_ends.specs.Names.{folded}
 use Rattle.sexp_text.proofs.words.is_word.Given as goal
 
 abbrev pub invariant-loop-at : goal.invariant-loop-at

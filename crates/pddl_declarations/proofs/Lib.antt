@@ -1,0 +1,4 @@
+pub mod Known
+pub mod TypedSteps
+pub mod Gathering
+pub mod FunctionLemmas

@@ -1,0 +1,3 @@
+pub mod Kinds
+pub mod Sides
+pub mod internal

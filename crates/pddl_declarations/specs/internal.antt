@@ -1,0 +1,3 @@
+-- What the contracts of single functions cite, and nothing that is said of texts.
+pub mod Typing
+pub mod FunctionSteps

@@ -1,0 +1,13 @@
+pub mod Trees
+pub mod Atoms
+pub mod Expressions
+pub mod Conditions
+pub mod Effects
+pub mod Lists
+pub mod Declarations
+pub mod Sections
+pub mod Leaves
+pub mod Actions
+pub mod Domains
+pub mod InitialState
+pub mod Problems

@@ -1,8 +1,0 @@
-use Rattle.std.proofs.Common.{None, drop}
-use Rattle.pddl_reader.specs.Sections.{clauses_from, no_clauses}
-use Rattle.pddl_reader.specs.ClauseSteps.{AreSameClauses, clauses_with}
-use Rattle.pddl_reader.proofs.clauses.action_parts.Given as goal
-
-abbrev pub invariant-each : goal.invariant-each
-invariant-each l =
-    AreSameClauses l.fn.notes.first (clauses_from l.text l.at None no_clauses l.trees) l.notes.first (clauses_with l.reading l.text l.at (drop l.tree-index l.trees))

@@ -1,7 +1,0 @@
-use Rattle.std.proofs.Common.{◌++◌, ℕ, List, Bor, drop, map}
-use Rattle.pddl_reader.specs.Lists.{names_of}
-use Rattle.pddl_reader.specs.Typing.{AreSameWords}
-use Rattle.pddl_reader.proofs.types.known_names.Given as goal
-
-abbrev pub invariant-each : goal.invariant-each
-invariant-each l = AreSameWords (map (λ (w : Bor (List ℕ)). w.now) l.known.keys ++ names_of (drop l.one-index l.types)) (names_of l.types)
