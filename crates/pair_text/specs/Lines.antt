@@ -2,6 +2,7 @@
 use Rattle.std.specs.Prelude.{ℕ, ◌++◌, List, [], ◌∷◌, codes, decimal, flat_map}
 use Rattle.pddl_terms.specs.declared.limits.What.{What}
 use Rattle.pddl_terms.specs.declared.limits.What.TheVariants as what
+use Rattle.pddl_terms.specs.Limits.{limit_of}
 use Rattle.pddl_types.specs.declared.faults.CheckKind.{CheckKind}
 use Rattle.pddl_types.specs.declared.faults.CheckKind.TheVariants as kind
 use Rattle.pair_text.specs.declared.refusals.Source.{Source}
@@ -16,18 +17,6 @@ abbrev pub source_word : Source → List ℕ
 source_word source.Domain = codes "domain"
 source_word source.Problem = codes "problem"
 source_word source.Plan = codes "plan"
-
--- how many there may be
-abbrev pub limit_of : What → ℕ
-limit_of what.Objects = 1024
-limit_of what.Parameters = 8
-limit_of what.Effects = 256
-limit_of what.Letters = 128
-limit_of what.Facts = 4096
-limit_of what.Fluents = 256
-limit_of what.Actions = 20000
-limit_of what.Prefixes = 5000000
-limit_of what.Supporters = 200000
 
 abbrev pub what_word : What → List ℕ
 what_word what.Objects = codes "objects"
@@ -59,6 +48,10 @@ told_name kind.Arity name = name ∷ []
 told_name kind.WrongType name = name ∷ []
 told_name kind.Divide name = []
 
+-- such as `TOOMANY parameters 8`
+abbrev pub limit_words : What → List (List ℕ)
+limit_words w = codes "TOOMANY" ∷ what_word w ∷ decimal (limit_of w) ∷ []
+
 abbrev pub reason_words : Reason → List (List ℕ)
 reason_words reason.Unclosed = codes "UNCLOSED" ∷ []
 reason_words reason.Stray = codes "STRAY" ∷ []
@@ -67,7 +60,7 @@ reason_words reason.TooDeep = codes "TOODEEP" ∷ []
 reason_words (reason.Unsupported name) = codes "UNSUPPORTED" ∷ name ∷ []
 reason_words reason.Shape = codes "SHAPE" ∷ []
 reason_words reason.Number = codes "NUMBER" ∷ []
-reason_words (reason.TooMany w) = codes "TOOMANY" ∷ what_word w ∷ decimal (limit_of w) ∷ []
+reason_words (reason.TooMany w) = limit_words w
 reason_words (reason.Ill kind name) = kind_word kind ∷ told_name kind name
 
 -- such as `2:49`
@@ -78,6 +71,10 @@ abbrev pub refusal_words : Refusal → List (List ℕ)
 refusal_words (refusal.TooLarge file) = source_word file ∷ codes "TOOLARGE" ∷ []
 refusal_words (refusal.At file place r) = source_word file ∷ place_word place ∷ reason_words r
 refusal_words (refusal.BadLine line) = codes "plan" ∷ decimal line ∷ codes "BADLINE" ∷ []
+refusal_words (refusal.Unset text) = codes "UNSET" ∷ text ∷ []
+refusal_words (refusal.Places text) = codes "PLACES" ∷ text ∷ []
+refusal_words (refusal.Range text) = codes "RANGE" ∷ text ∷ []
+refusal_words (refusal.Limit w) = limit_words w
 refusal_words refusal.Unbuilt = codes "UNBUILT" ∷ []
 
 -- words with a space before each

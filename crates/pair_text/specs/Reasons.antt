@@ -7,8 +7,11 @@ use Rattle.pddl_terms.specs.declared.files.Domain.{Domain}
 use Rattle.pddl_terms.specs.declared.files.Problem.{Problem}
 use Rattle.pddl_reader.specs.declared.faults.ReadFault.{ReadFault}
 use Rattle.pddl_reader.specs.declared.faults.ReadFault.TheVariants as fault
-use Rattle.pddl_reader.specs.Grammar.{SpellsDomain, SpellsProblem}
-use Rattle.pddl_reader.specs.Texts.{IsReadFault, domain_in, problem_in}
+use Rattle.pddl_trees.specs.Domains.{domain_in}
+use Rattle.pddl_trees.specs.Problems.{problem_in}
+use Rattle.pddl_grammar.specs.Domains.{SpellsDomain}
+use Rattle.pddl_grammar.specs.Problems.{SpellsProblem}
+use Rattle.pddl_reader.specs.Answers.{IsReadFault}
 use Rattle.pddl_types.specs.declared.faults.CheckFault.TheVariants as check
 use Rattle.pddl_types.specs.declared.faults.CheckKind.{CheckKind}
 use Rattle.pddl_types.specs.declared.faults.Side.{Side}
@@ -53,9 +56,9 @@ source_of side.Domain = source.Domain
 source_of side.Problem = source.Problem
 
 -- the text of a side, of a domain's text and a problem's
-abbrev pub text_of : Side → List ℕ → List ℕ → List ℕ
-text_of side.Domain domain problem = domain
-text_of side.Problem domain problem = problem
+abbrev pub side_text : Side → List ℕ → List ℕ → List ℕ
+side_text side.Domain domain problem = domain
+side_text side.Problem domain problem = problem
 
 -- the two texts spell this domain and this problem, which go together
 pub record IsAcceptedPair (domain problem : List ℕ) (pair : Pair) : Type 0 where
@@ -74,7 +77,7 @@ pub data IsFirstReason (domain problem : List ℕ) : Refusal → Type 0 where
       → IsFirstReason domain problem (At source.Problem (place_of problem at) r)
   in_pair : (pair : Pair) (s : Side) (kind : CheckKind) (name : Name)
       → SpellsDomain domain pair.domain → SpellsProblem problem pair.problem → IsFirstFault pair (check.At s kind name)
-      → IsFirstReason domain problem (At (source_of s) (place_of (text_of s domain problem) name.at) (reason.Ill kind name.text))
+      → IsFirstReason domain problem (At (source_of s) (place_of (side_text s domain problem) name.at) (reason.Ill kind name.text))
 
 -- why a pair isn't given: the first reason against it, or want of memory
 abbrev pub IsPairFault : List ℕ → List ℕ → PairFault → Type 0

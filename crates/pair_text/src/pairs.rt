@@ -2,7 +2,9 @@
 
 ghost use Rattle.std.specs.Prelude.{◌≡◌, ◌≤◌, ◌^◌, ℕ, List, IfErr, IfOk, length};
 ghost use Rattle.pddl_terms.specs.declared.files.Domain.{Domain};
-ghost use Rattle.pddl_reader.specs.Grammar.{SpellsDomain, SpellsProblem};
+ghost use Rattle.pddl_terms.specs.Readable.{IsReadableDomain, IsReadableProblem};
+ghost use Rattle.pddl_grammar.specs.Domains.{SpellsDomain};
+ghost use Rattle.pddl_grammar.specs.Problems.{SpellsProblem};
 ghost use Rattle.pair_text.specs.Reasons.{IsAcceptedPair, IsPairFault};
 
 use crate::reasons::{pair_fault, reading_fault};
@@ -15,8 +17,7 @@ use std::alloc::Global;
 fn domain_of(alloc: Global, text: &[u8]) -> Result<Domain, PairFault>
     requires { length text.now ≤ 2 ^ 30 }
     ensures spelled { IfOk result (SpellsDomain text.now) }
-    ensures few_constants { IfOk result (λ domain. length domain.constants ≤ 2 ^ 30) }
-    ensures few_actions { IfOk result (λ domain. length domain.schemas ≤ 2 ^ 30) }
+    ensures readable { IfOk result IsReadableDomain }
     ensures fault { IfErr result (λ fault. (problem : List ℕ) → IsPairFault text.now problem fault) }
 {
     match read_domain(alloc, text) {
@@ -28,7 +29,7 @@ fn domain_of(alloc: Global, text: &[u8]) -> Result<Domain, PairFault>
 fn problem_of(alloc: Global, text: &[u8]) -> Result<Problem, PairFault>
     requires { length text.now ≤ 2 ^ 30 }
     ensures spelled { IfOk result (SpellsProblem text.now) }
-    ensures few_objects { IfOk result (λ problem. length problem.objects ≤ 2 ^ 30) }
+    ensures readable { IfOk result IsReadableProblem }
     ensures fault { IfErr result (λ fault. (domain : List ℕ) (spelled : Domain) → SpellsDomain domain spelled → IsPairFault domain text.now fault) }
 {
     match read_problem(alloc, text) {
@@ -49,9 +50,8 @@ fn pair_of(
     requires problem_size { length problem_text.now ≤ 2 ^ 30 }
     requires domain_spelled { SpellsDomain domain_text.now domain }
     requires problem_spelled { SpellsProblem problem_text.now problem }
-    requires few_constants { length domain.constants ≤ 2 ^ 30 }
-    requires few_objects { length problem.objects ≤ 2 ^ 30 }
-    requires few_actions { length domain.schemas ≤ 2 ^ 30 }
+    requires domain_readable { IsReadableDomain domain }
+    requires problem_readable { IsReadableProblem problem }
     ensures accepted { IfOk result (IsAcceptedPair domain_text.now problem_text.now) }
     ensures fault { IfErr result (IsPairFault domain_text.now problem_text.now) }
 {

@@ -12,8 +12,9 @@ fn front(text: &[u8], len: usize) -> &[u8]
     if len < text.len() { &text[..len] } else { text }
 }
 
-/// The place of the byte with this position. A position past the end of the text counts as the end.
-pub(crate) fn place_of(text: &[u8], at: u32) -> Place
+/// The place of the byte with this position, of a text of at most 2^30 bytes. A position past the end of the text counts as
+/// the end.
+pub fn place_of(text: &[u8], at: u32) -> Place
     requires { length text.now ≤ 2 ^ 30 }
     ensures { result ≡ place_of text.now at }
 {

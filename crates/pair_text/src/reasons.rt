@@ -6,7 +6,7 @@ ghost use Rattle.pair_text.specs.declared.refusals.PairFault.TheVariants as answ
 ghost use Rattle.pair_text.specs.declared.refusals.Refusal.TheVariants.{At};
 ghost use Rattle.pair_text.specs.declared.refusals.Reason.TheVariants as reason_of;
 ghost use Rattle.pair_text.specs.Places.{place_of};
-ghost use Rattle.pair_text.specs.Reasons.{reading_reason, source_of, text_of, text_reason};
+ghost use Rattle.pair_text.specs.Reasons.{reading_reason, source_of, side_text, text_reason};
 
 use crate::places::place_of;
 use crate::refusals::{PairFault, Reason, Refusal, Source};
@@ -64,7 +64,7 @@ pub(crate) fn pair_fault(
 ) -> PairFault
     requires domain { length domain.now ≤ 2 ^ 30 }
     requires problem { length problem.now ≤ 2 ^ 30 }
-    ensures { result ≡ answer.Refused (At (source_of side) (place_of (text_of side domain.now problem.now) name.at) (reason_of.Ill kind name.text)) }
+    ensures { result ≡ answer.Refused (At (source_of side) (place_of (side_text side domain.now problem.now) name.at) (reason_of.Ill kind name.text)) }
 {
     let (source, text) = match side {
         Side::Domain => (Source::Domain, domain),

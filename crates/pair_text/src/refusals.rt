@@ -51,6 +51,14 @@ pub enum Refusal {
     At(Source, Place, Reason),
     /// The number of the first line of a plan file that is neither skipped nor a step.
     BadLine(u32),
+    /// A fluent without a first value that an action assigns or that the goal reads.
+    Unset(Text),
+    /// What needs more places than there are: a fluent, an action, or `goal`.
+    Places(Text),
+    /// What leaves the range of numbers: a fluent at its places, an action, or `goal`.
+    Range(Text),
+    /// A limit that isn't passed at a place of a file.
+    Limit(What),
     /// A part of the planner that isn't there yet.
     Unbuilt,
 }

@@ -1,7 +1,7 @@
 //! The words of refusals.
 
 ghost use Rattle.std.specs.Prelude.{◌≡◌};
-ghost use Rattle.pair_text.specs.Lines.{kind_word, limit_of, source_word, what_word};
+ghost use Rattle.pair_text.specs.Lines.{kind_word, source_word, what_word};
 
 use crate::refusals::Source;
 use pddl_terms::What;
@@ -30,23 +30,6 @@ pub(crate) fn what_word(what: What) -> &'static [u8]
         What::Actions => b"actions",
         What::Prefixes => b"prefixes",
         What::Supporters => b"supporters",
-    }
-}
-
-/// How many there may be.
-pub(crate) fn limit_of(what: What) -> u32
-    ensures { result ≡ limit_of what }
-{
-    match what {
-        What::Objects => 1_024,
-        What::Parameters => 8,
-        What::Effects => 256,
-        What::Letters => 128,
-        What::Facts => 4_096,
-        What::Fluents => 256,
-        What::Actions => 20_000,
-        What::Prefixes => 5_000_000,
-        What::Supporters => 200_000,
     }
 }
 

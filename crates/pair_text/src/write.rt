@@ -1,10 +1,10 @@
 //! The line of a refusal.
 
 ghost use Rattle.std.specs.Prelude.{◌≡◌, ◌∷◌, ◌++◌, [], ℕ, List, OnOk, OnErr, codes, decimal};
-ghost use Rattle.pair_text.specs.Lines.{limit_of, kind_word, place_word, reason_words, refusal_line, refusal_words, source_word, spaced, told_name, what_word};
+ghost use Rattle.pair_text.specs.Lines.{kind_word, limit_words, place_word, reason_words, refusal_line, refusal_words, source_word, spaced, told_name};
 
 use crate::refusals::{Place, Reason, Refusal, Source};
-use crate::words::{kind_word, limit_of, source_word, what_word};
+use crate::words::{kind_word, source_word, what_word};
 use itoa::Buffer;
 use num_ends::{List, NoMemory};
 use pddl_terms::What;
@@ -38,12 +38,12 @@ fn append_place(out: &mut List<u8>, place: Place) -> Result<(), NoMemory>
 }
 
 fn append_limit(out: &mut List<u8>, what: What) -> Result<(), NoMemory>
-    ensures ok { OnOk result (out.new ≡ out.old ++ spaced (codes "TOOMANY" ∷ what_word what ∷ decimal (limit_of what) ∷ [])) }
+    ensures ok { OnOk result (out.new ≡ out.old ++ spaced (limit_words what)) }
     ensures err { OnErr result ((part : List ℕ) × (out.new ≡ out.old ++ part)) }
 {
     append_word(out, b"TOOMANY")?;
     append_word(out, what_word(what))?;
-    append_number(out, limit_of(what))
+    append_number(out, what.limit())
 }
 
 fn append_named(out: &mut List<u8>, word: &[u8], name: &[u8]) -> Result<(), NoMemory>
@@ -112,6 +112,10 @@ fn append_refusal(out: &mut List<u8>, refusal: &Refusal) -> Result<(), NoMemory>
         Refusal::TooLarge(source) => append_named(out, source_word(*source), b"TOOLARGE"),
         Refusal::At(source, place, reason) => append_placed(out, *source, *place, reason),
         Refusal::BadLine(line) => append_bad_line(out, *line),
+        Refusal::Unset(text) => append_named(out, b"UNSET", text.as_slice()),
+        Refusal::Places(text) => append_named(out, b"PLACES", text.as_slice()),
+        Refusal::Range(text) => append_named(out, b"RANGE", text.as_slice()),
+        Refusal::Limit(what) => append_limit(out, *what),
         Refusal::Unbuilt => append_word(out, b"UNBUILT"),
     }
 }

@@ -1,4 +1,4 @@
--- Nothing stands twice exactly where nothing is noted as standing again.
+-- Nothing stands twice exactly where nothing is with_fault as standing again.
 use Rattle.std.proofs.Common.{◌≡◌, ◌⊎◌, ◌||◌, inl, inr, ℕ, Bool, true, false, List, [], ◌∷◌, ◌++◌, refl, sym, ap, subst, ◌∙◌, append_assoc, if◌then◌else◌}
 use Rattle.std.specs.Prelude.{◌↔◌, bytes_eq, not}
 use Rattle.std.specs.List.{list_any}
@@ -7,8 +7,9 @@ use Rattle.std.proofs.lemmas.Slice.Eq.{bytes_eq-Decides}
 use Rattle.pddl_terms.specs.declared.names.Name.{Name}
 use Rattle.pddl_types.specs.declared.faults.Side.{Side}
 use Rattle.pddl_types.specs.declared.faults.CheckKind.TheVariants.{Duplicate}
-use Rattle.pddl_types.specs.Faults.{fault_at}
-use Rattle.pddl_types.specs.Checks.{is_among, repeated, with_names, with_text}
+use Rattle.name_table.specs.Tables.{is_text_among, with_text}
+use Rattle.pddl_types.specs.Faults.{check_fault}
+use Rattle.pddl_types.specs.DeclarationFaults.{repeated, with_names}
 use Rattle.pddl_types.specs.WellFormed.{AreDistinct, Each, Stands, texts_of}
 use Rattle.pddl_types.proofs.Empties.{same, chain, back, both, empty_append, empty_unless}
 
@@ -75,7 +76,7 @@ module _ {X : Type 0} (E : X → X → Bool) (decides : (x y : X) → (E x y ≡
       let moved : (seen ++ x ∷ []) ++ xs ≡ seen ++ x ∷ xs = append_assoc seen (x ∷ []) xs in
       (λ h. ((h.0, (rest.0 h.1).0), subst (λ s. Fresh s ys) moved (rest.0 h.1).1), λ h. (h.0.0, rest.1 (h.0.1, subst (λ s. Fresh s ys) (sym moved) h.1)))
 
-distinct_halves : {X : Type 0} (xs ys : List X) → AreDistinct (xs ++ ys) ↔ (AreDistinct xs × AreDistinct ys × ((x : X) → Stands x xs → Stands x ys → ⊥))
+pub distinct_halves : {X : Type 0} (xs ys : List X) → AreDistinct (xs ++ ys) ↔ (AreDistinct xs × AreDistinct ys × ((x : X) → Stands x xs → Stands x ys → ⊥))
 distinct_halves [] ys = (λ h. (tt, h, λ x i j. i), λ h. h.1)
 distinct_halves (z ∷ xs) ys =
     let rest = distinct_halves xs ys in
@@ -100,10 +101,10 @@ FreshTexts seen xs = Fresh bytes_eq bytes_decide seen xs
 pub repeated_fresh : (side : Side) (seen : List (List ℕ)) (ns : List Name) → (repeated side seen ns ≡ []) ↔ FreshTexts seen (texts_of ns)
 repeated_fresh side seen [] = (λ e. tt, λ h. refl)
 repeated_fresh side seen (n ∷ ns) =
-    chain (empty_append _ _) (chain (both (empty_unless (not (is_among n.text seen)) (fault_at side Duplicate n)) same) (cases (is_among n.text seen) refl (λ s. repeated_fresh side s ns)))
+    chain (empty_append _ _) (chain (both (empty_unless (not (is_text_among n.text seen)) (check_fault side Duplicate n)) same) (cases (is_text_among n.text seen) refl (λ s. repeated_fresh side s ns)))
   where
-    cases : (test : Bool) → is_among n.text seen ≡ test → ((s : List (List ℕ)) → (repeated side s ns ≡ []) ↔ FreshTexts s (texts_of ns))
-        → ((not (is_among n.text seen) ≡ true) × (repeated side (with_text seen n.text) ns ≡ [])) ↔ ((is_among n.text seen ≡ false) × FreshTexts (seen ++ n.text ∷ []) (texts_of ns))
+    cases : (test : Bool) → is_text_among n.text seen ≡ test → ((s : List (List ℕ)) → (repeated side s ns ≡ []) ↔ FreshTexts s (texts_of ns))
+        → ((not (is_text_among n.text seen) ≡ true) × (repeated side (with_text seen n.text) ns ≡ [])) ↔ ((is_text_among n.text seen ≡ false) × FreshTexts (seen ++ n.text ∷ []) (texts_of ns))
     cases true e rest = (λ h. (let bad = ap not (sym e) ∙ h.0 in cc), λ h. (let bad = sym e ∙ h.0 in cc))
     cases false e rest =
         let more : with_text seen n.text ≡ seen ++ n.text ∷ [] = ap (λ (b : Bool). if b then seen else seen ++ n.text ∷ []) e in (

@@ -2,7 +2,7 @@
 use Rattle.std.proofs.Common.{◌≡◌, Bool, true, false, List, [], ◌∷◌, ◌++◌, map, refl}
 use Rattle.std.specs.Prelude.{◌↔◌, flat_map}
 use Rattle.pddl_types.specs.declared.faults.Fault.{Fault}
-use Rattle.pddl_types.specs.Faults.{unless}
+use Rattle.pddl_types.specs.DeclarationFaults.{unless}
 use Rattle.pddl_types.specs.WellFormed.{Each}
 
 pub same : {A : Type 0} → A ↔ A
@@ -50,6 +50,18 @@ each_flat P f (x ∷ xs) = chain (each_append P (f x) (flat_map f xs)) (both sam
 pub each_same : {A : Type 0} (P Q : A → Type 0) → ((x : A) → P x ↔ Q x) → (xs : List A) → Each P xs ↔ Each Q xs
 each_same P Q h [] = same
 each_same P Q h (x ∷ xs) = both (h x) (each_same P Q h xs)
+
+pub each_of_all : {A : Type 0} (P : A → Type 0) → ((x : A) → P x) → (xs : List A) → Each P xs
+each_of_all P h [] = tt
+each_of_all P h (x ∷ xs) = (h x, each_of_all P h xs)
+
+pub each_from : {A : Type 0} (P Q : A → Type 0) → ((x : A) → P x → Q x) → (xs : List A) → Each P xs → Each Q xs
+each_from P Q h [] e = tt
+each_from P Q h (x ∷ xs) e = (h x e.0, each_from P Q h xs e.1)
+
+pub each_under : {A : Type 0} (U P Q : A → Type 0) → ((x : A) → U x → P x ↔ Q x) → (xs : List A) → Each U xs → Each P xs ↔ Each Q xs
+each_under U P Q h [] e = same
+each_under U P Q h (x ∷ xs) e = both (h x e.0) (each_under U P Q h xs e.1)
 
 pub each_both : {A : Type 0} (P Q : A → Type 0) (xs : List A) → Each (λ x. P x × Q x) xs ↔ (Each P xs × Each Q xs)
 each_both P Q [] = (λ h. (tt, tt), λ h. tt)

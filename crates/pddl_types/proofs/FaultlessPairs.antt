@@ -13,12 +13,17 @@ use Rattle.pddl_types.specs.declared.faults.Side.TheVariants as side
 use Rattle.pddl_types.specs.declared.faults.CheckKind.TheVariants.{CyclicType, UnknownType}
 use Rattle.pddl_types.specs.declared.pairs.Pair.{Pair}
 use Rattle.pddl_types.specs.declared.pairs.Sort.TheVariants.{Function}
-use Rattle.pddl_types.specs.Faults.{fault_at, unless}
-use Rattle.pddl_types.specs.Types.{Descends, child, above, descends, first_typed, is_declared, top_type}
-use Rattle.pddl_types.specs.Checks.{atom_faults, cyclic_types, effect_faults, expression_faults, functions_first, heads_of, names_of, parameter_faults, repeated, repeated_heads, repeated_sections, signature_faults, type_faults, typed_faults, unknown_types, with_names}
-use Rattle.pddl_types.specs.WellFormed.{AreDistinct, Each, IsDeclaredType, Stands, all_dividing, all_read, fact_changed, fluent_changed, number_in, reads_in, texts_of}
-use Rattle.pddl_types.proofs.Climbs.{descends_from, descends_to, parent_among}
-use Rattle.pddl_types.proofs.Pigeons.{In}
+use Rattle.name_table.specs.TypedLists.{first_typed, names_of}
+use Rattle.type_order.specs.Types.{Descends, child, above, descends, is_declared, top_type}
+use Rattle.pddl_types.specs.Faults.{check_fault}
+use Rattle.pddl_types.specs.Pairs.{heads_of}
+use Rattle.pddl_types.specs.Meanings.{functions_first}
+use Rattle.pddl_types.specs.DeclarationFaults.{unless, cyclic_types, parameter_faults, repeated, repeated_heads, repeated_in_both, signature_faults, types_faults, typed_faults, unknown_types, with_names}
+use Rattle.pddl_types.specs.UseFaults.{atom_faults, effect_faults, expression_faults}
+use Rattle.pddl_types.specs.Contents.{all_dividing, all_read, fact_changed, fluent_changed, right_sides, expression_reads}
+use Rattle.pddl_types.specs.WellFormed.{AreDistinct, Each, IsDeclaredType, Stands, texts_of}
+use Rattle.type_order.proofs.Climbs.{descends_from, descends_to, parent_among}
+use Rattle.type_order.proofs.Pigeons.{In}
 use Rattle.pddl_types.proofs.Distinct.{bytes_decide, distinct_swap, fresh_distinct, repeated_behind, repeated_distinct, repeated_fresh, texts_append}
 use Rattle.pddl_types.proofs.Empties.{chain, back, both, empty_append, empty_flat, empty_three, empty_unless, each_both, each_flat, each_map, each_same}
 use Rattle.pddl_types.proofs.FaultlessAtoms.{either_true}
@@ -43,9 +48,9 @@ AreDeclared p items = Each (λ t. IsDeclaredType p t.kind.text) items
 
 unknown_means : (p : Pair) (side : Side) (items : List Typed) → (unknown_types p.domain.types side items ≡ []) ↔ AreDeclared p items
 unknown_means p side items =
-    chain (empty_flat (λ t. unless (is_declared p.domain.types t.kind.text) (fault_at side UnknownType t.kind)) items)
-    (each_same (λ t. unless (is_declared p.domain.types t.kind.text) (fault_at side UnknownType t.kind) ≡ []) (λ t. IsDeclaredType p t.kind.text)
-    (λ t. chain (empty_unless (is_declared p.domain.types t.kind.text) (fault_at side UnknownType t.kind)) (declared_means p t.kind.text)) items)
+    chain (empty_flat (λ t. unless (is_declared p.domain.types t.kind.text) (check_fault side UnknownType t.kind)) items)
+    (each_same (λ t. unless (is_declared p.domain.types t.kind.text) (check_fault side UnknownType t.kind) ≡ []) (λ t. IsDeclaredType p t.kind.text)
+    (λ t. chain (empty_unless (is_declared p.domain.types t.kind.text) (check_fault side UnknownType t.kind)) (declared_means p t.kind.text)) items)
 
 descends_among : (types : List Typed) (k q : List ℕ) → Descends types k q → In k (map (λ t. t.name.text) types)
 descends_among types k q (child _ _ e) = parent_among types k q e
@@ -58,29 +63,29 @@ each_at P k (t ∷ types) h (inr i) = each_at P k types h.1 i
 
 cyclic_means : (types : List Typed) → (cyclic_types types types ≡ []) ↔ ((k : List ℕ) → Descends types k k → ⊥)
 cyclic_means types =
-    chain (empty_flat (λ t. unless (not (descends types t.name.text t.name.text)) (fault_at side.Domain CyclicType t.name)) types)
+    chain (empty_flat (λ t. unless (not (descends types t.name.text t.name.text)) (check_fault side.Domain CyclicType t.name)) types)
     (λ h k d. each_at (λ j. Descends types j j → ⊥) k types (apart types h) (descends_among types k k d) d, λ h. none types h)
   where
-    not_here : (t : Typed) → unless (not (descends types t.name.text t.name.text)) (fault_at side.Domain CyclicType t.name) ≡ [] → Descends types t.name.text t.name.text → ⊥
+    not_here : (t : Typed) → unless (not (descends types t.name.text t.name.text)) (check_fault side.Domain CyclicType t.name) ≡ [] → Descends types t.name.text t.name.text → ⊥
     not_here t e d =
         let yes = descends_to types t.name.text t.name.text d in
-        let bad = ap not (sym yes) ∙ (empty_unless (not (descends types t.name.text t.name.text)) (fault_at side.Domain CyclicType t.name)).0 e in
+        let bad = ap not (sym yes) ∙ (empty_unless (not (descends types t.name.text t.name.text)) (check_fault side.Domain CyclicType t.name)).0 e in
         cc
 
-    apart : (ts : List Typed) → Each (λ t. unless (not (descends types t.name.text t.name.text)) (fault_at side.Domain CyclicType t.name) ≡ []) ts
+    apart : (ts : List Typed) → Each (λ t. unless (not (descends types t.name.text t.name.text)) (check_fault side.Domain CyclicType t.name) ≡ []) ts
         → Each (λ t. Descends types t.name.text t.name.text → ⊥) ts
     apart [] h = tt
     apart (t ∷ ts) h = (not_here t h.0, apart ts h.1)
 
-    here : (t : Typed) → ((k : List ℕ) → Descends types k k → ⊥) → (b : Bool) → descends types t.name.text t.name.text ≡ b → unless (not b) (fault_at side.Domain CyclicType t.name) ≡ []
+    here : (t : Typed) → ((k : List ℕ) → Descends types k k → ⊥) → (b : Bool) → descends types t.name.text t.name.text ≡ b → unless (not b) (check_fault side.Domain CyclicType t.name) ≡ []
     here t h true e = absurd (h t.name.text (descends_from types t.name.text t.name.text e))
     here t h false e = refl
 
-    none : (ts : List Typed) → ((k : List ℕ) → Descends types k k → ⊥) → Each (λ t. unless (not (descends types t.name.text t.name.text)) (fault_at side.Domain CyclicType t.name) ≡ []) ts
+    none : (ts : List Typed) → ((k : List ℕ) → Descends types k k → ⊥) → Each (λ t. unless (not (descends types t.name.text t.name.text)) (check_fault side.Domain CyclicType t.name) ≡ []) ts
     none [] h = tt
     none (t ∷ ts) h = (here t h (descends types t.name.text t.name.text) refl, none ts h)
 
-pub types_mean : (p : Pair) → (type_faults p.domain.types ≡ [])
+pub types_mean : (p : Pair) → (types_faults p.domain.types ≡ [])
     ↔ (AreDistinct (top_type ∷ texts_of (names_of p.domain.types)) × AreDeclared p p.domain.types × ((k : List ℕ) → Descends p.domain.types k k → ⊥))
 types_mean p =
     let apart = fresh_distinct bytes_eq bytes_decide (top_type ∷ texts_of (names_of p.domain.types)) in
@@ -103,7 +108,7 @@ objects_mean p =
     (empty_append (unknown_types p.domain.types side.Problem p.problem.objects) (repeated side.Problem (with_names [] (names_of p.domain.constants)) (names_of p.problem.objects))))
     (λ h. (constants.0 h.0.0, objects.0 h.1.0, names.0 (h.0.1, h.1.1)), λ h. ((constants.1 h.0, (names.1 h.2).0), (objects.1 h.1, (names.1 h.2).1)))
 
-sections_mean : (first second : List Sig) → (repeated_sections first second ≡ []) ↔ AreDistinct (texts_of (heads_of first ++ heads_of second))
+sections_mean : (first second : List Sig) → (repeated_in_both first second ≡ []) ↔ AreDistinct (texts_of (heads_of first ++ heads_of second))
 sections_mean first second =
     chain (empty_append (repeated side.Domain [] (heads_of first)) (repeated side.Domain (with_names [] (heads_of first)) (heads_of second)))
     (repeated_behind side.Domain side.Domain (heads_of first) (heads_of second))
@@ -118,7 +123,7 @@ swapped ns ms =
 pub heads_mean : (d : Domain) → (repeated_heads d ≡ []) ↔ AreDistinct (texts_of (heads_of d.predicates ++ heads_of d.functions))
 heads_mean d = cases (functions_first d.predicates d.functions)
   where
-    cases : (test : Bool) → ((if test then repeated_sections d.functions d.predicates else repeated_sections d.predicates d.functions) ≡ [])
+    cases : (test : Bool) → ((if test then repeated_in_both d.functions d.predicates else repeated_in_both d.predicates d.functions) ≡ [])
         ↔ AreDistinct (texts_of (heads_of d.predicates ++ heads_of d.functions))
     cases true = chain (sections_mean d.functions d.predicates) (swapped (heads_of d.functions) (heads_of d.predicates))
     cases false = sections_mean d.predicates d.functions
@@ -144,19 +149,19 @@ signatures_mean p sigs =
 module _ (p : Pair) (side : Side) (params : List Typed) where
   pub numbers_mean : (es : List Expr) → Each (IsNumber p side params) es ↔ (Each (ReadsWell p side params) (all_read es) × Each (IsUnchanged p side params) (all_dividing es))
   numbers_mean es =
-      chain (each_same (IsNumber p side params) (λ e. Each (ReadsWell p side params) (reads_in e).all × Each (IsUnchanged p side params) (reads_in e).in_divisors) (expression_means p side params) es)
-      (chain (each_both (λ e. Each (ReadsWell p side params) (reads_in e).all) (λ e. Each (IsUnchanged p side params) (reads_in e).in_divisors) es)
-      (both (back (each_flat (ReadsWell p side params) (λ e. (reads_in e).all) es)) (back (each_flat (IsUnchanged p side params) (λ e. (reads_in e).in_divisors) es))))
+      chain (each_same (IsNumber p side params) (λ e. Each (ReadsWell p side params) (expression_reads e).all × Each (IsUnchanged p side params) (expression_reads e).in_divisors) (expression_means p side params) es)
+      (chain (each_both (λ e. Each (ReadsWell p side params) (expression_reads e).all) (λ e. Each (IsUnchanged p side params) (expression_reads e).in_divisors) es)
+      (both (back (each_flat (ReadsWell p side params) (λ e. (expression_reads e).all) es)) (back (each_flat (IsUnchanged p side params) (λ e. (expression_reads e).in_divisors) es))))
 
   pub effects_mean : (es : List Effect) → (flat_map (effect_faults p side params) es ≡ [])
-      ↔ (Each (IsFact p side params) (flat_map fact_changed es) × Each (ReadsWell p side params) (flat_map fluent_changed es) × Each (IsNumber p side params) (flat_map number_in es))
+      ↔ (Each (IsFact p side params) (flat_map fact_changed es) × Each (ReadsWell p side params) (flat_map fluent_changed es) × Each (IsNumber p side params) (flat_map right_sides es))
   effects_mean [] = (λ h. (tt, tt, tt), λ h. refl)
   effects_mean (e ∷ es) = chain (empty_append (effect_faults p side params e) (flat_map (effect_faults p side params) es)) (cases e (effects_mean es))
     where
       cases : (x : Effect) → (flat_map (effect_faults p side params) es ≡ [])
-          ↔ (Each (IsFact p side params) (flat_map fact_changed es) × Each (ReadsWell p side params) (flat_map fluent_changed es) × Each (IsNumber p side params) (flat_map number_in es))
+          ↔ (Each (IsFact p side params) (flat_map fact_changed es) × Each (ReadsWell p side params) (flat_map fluent_changed es) × Each (IsNumber p side params) (flat_map right_sides es))
           → ((effect_faults p side params x ≡ []) × (flat_map (effect_faults p side params) es ≡ []))
-          ↔ (Each (IsFact p side params) (flat_map fact_changed (x ∷ es)) × Each (ReadsWell p side params) (flat_map fluent_changed (x ∷ es)) × Each (IsNumber p side params) (flat_map number_in (x ∷ es)))
+          ↔ (Each (IsFact p side params) (flat_map fact_changed (x ∷ es)) × Each (ReadsWell p side params) (flat_map fluent_changed (x ∷ es)) × Each (IsNumber p side params) (flat_map right_sides (x ∷ es)))
       cases (effect.Add a) rest = (λ h. (let r = rest.0 h.1 in ((h.0, r.0), r.1, r.2)), λ h. (h.0.0, rest.1 (h.0.1, h.1, h.2)))
       cases (effect.Del a) rest = (λ h. (let r = rest.0 h.1 in ((h.0, r.0), r.1, r.2)), λ h. (h.0.0, rest.1 (h.0.1, h.1, h.2)))
       cases (effect.Num how a x) rest =

@@ -5,12 +5,13 @@ use Rattle.std.specs.Option.{option_or}
 use Rattle.std.proofs.lemmas.List.Folds.{find-append}
 use Rattle.pddl_terms.specs.declared.actions.Schema.{Schema}
 use Rattle.pddl_terms.specs.declared.names.Name.{Name}
+use Rattle.pddl_terms.specs.declared.names.Sig.{Sig}
 use Rattle.pddl_terms.specs.declared.names.Typed.{Typed}
 use Rattle.pddl_terms.specs.declared.files.Domain.{Domain}
-use Rattle.pddl_types.specs.Types.{first_typed}
-use Rattle.pddl_types.specs.Checks.{changed_functions, changed_heads, is_among, names_of, schema_names}
-use Rattle.pddl_types.specs.Numberings.{number_in, numbered, place_in}
-use Rattle.pddl_types.proofs.Numbered.{number_is_place, place_behind, place_within, some_place}
+use Rattle.name_table.specs.Tables.{table_number, is_text_among, numbered, place_in}
+use Rattle.name_table.specs.TypedLists.{first_typed, names_of}
+use Rattle.pddl_types.specs.Pairs.{heads_of, changed_functions, changed_heads, schema_names}
+use Rattle.name_table.proofs.Numbered.{number_is_place, place_behind, place_within, some_place}
 
 pub constant_found : (text : List ℕ) (xs ys : List Typed) (t : Typed) → Some t ≡ first_typed text xs → Some t ≡ first_typed text (xs ++ ys)
 constant_found text xs ys t h =
@@ -20,14 +21,14 @@ pub object_found : (text : List ℕ) (xs ys : List Typed) (r : Option Typed) →
 object_found text xs ys r none h =
     h ∙ ap (λ (x : Option Typed). option_or x (first_typed text ys)) none ∙ sym (find-append (λ (s : Typed). bytes_eq text s.name.text) xs ys)
 
-pub changed_found : (text : List ℕ) (d : Domain) (numbers : List (List ℕ × ℕ)) (number : Option ℕ) → numbers ≡ numbered (changed_heads d.schemas) → number ≡ number_in text numbers
-    → is_some number ≡ is_among text (changed_functions d)
+pub changed_found : (text : List ℕ) (d : Domain) (numbers : List (List ℕ × ℕ)) (number : Option ℕ) → numbers ≡ numbered (changed_heads d.schemas) → number ≡ table_number text numbers
+    → is_some number ≡ is_text_among text (changed_functions d)
 changed_found text d numbers number table h =
-    ap is_some (h ∙ ap (number_in text) table ∙ number_is_place text (changed_heads d.schemas)) ∙ some_place text (changed_heads d.schemas)
+    ap is_some (h ∙ ap (table_number text) table ∙ number_is_place text (changed_heads d.schemas)) ∙ some_place text (changed_heads d.schemas)
 
 -- ---- numbers of constants and objects
 
-names_append : (xs ys : List Typed) → names_of (xs ++ ys) ≡ names_of xs ++ names_of ys
+pub names_append : (xs ys : List Typed) → names_of (xs ++ ys) ≡ names_of xs ++ names_of ys
 names_append [] ys = refl
 names_append (x ∷ xs) ys = ap (λ (ns : List Name). x.name ∷ ns) (names_append xs ys)
 
@@ -35,12 +36,13 @@ length_names : (xs : List Typed) → length (names_of xs) ≡ length xs
 length_names [] = refl
 length_names (x ∷ xs) = ap suc (length_names xs)
 
+length_heads : (xs : List Sig) → length (heads_of xs) ≡ length xs
+length_heads [] = refl
+length_heads (x ∷ xs) = ap suc (length_heads xs)
+
 length_schema_names : (xs : List Schema) → length (schema_names xs) ≡ length xs
 length_schema_names [] = refl
 length_schema_names (x ∷ xs) = ap suc (length_schema_names xs)
-
-pub place_of : (text : List ℕ) (numbers : List (List ℕ × ℕ)) (names : List Name) (number : Option ℕ) → numbers ≡ numbered names → number ≡ number_in text numbers → number ≡ place_in text names
-place_of text numbers names number table h = h ∙ ap (number_in text) table ∙ number_is_place text names
 
 split_place : (text : List ℕ) (xs ys : List Typed) → place_in text (names_of (xs ++ ys)) ≡ option_or (place_in text (names_of xs)) (option_map (λ i. length xs + i) (place_in text (names_of ys)))
 split_place text xs ys =
@@ -63,3 +65,6 @@ typed_within text xs i place = let within = place_within text (names_of xs) i pl
 
 pub schema_within : (text : List ℕ) (xs : List Schema) (i : ℕ) → Some i ≡ place_in text (schema_names xs) → i < length xs
 schema_within text xs i place = let within = place_within text (schema_names xs) i place in omega (arith, length_schema_names xs)
+
+pub sig_within : (text : List ℕ) (xs : List Sig) (i : ℕ) → Some i ≡ place_in text (heads_of xs) → i < length xs
+sig_within text xs i place = let within = place_within text (heads_of xs) i place in omega (arith, length_heads xs)

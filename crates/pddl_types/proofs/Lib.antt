@@ -1,14 +1,10 @@
 pub mod Noted
-pub mod Hashed
-pub mod Numbered
 pub mod Found
 pub mod Layers
-pub mod Pigeons
-pub mod Climbs
 pub mod FirstFault
-pub mod Jumps
 pub mod Empties
 pub mod Distinct
+pub mod Meant
 pub mod FaultlessAtoms
 pub mod FaultlessParts
 pub mod FaultlessPairs

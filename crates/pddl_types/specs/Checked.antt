@@ -1,12 +1,11 @@
 -- What holds of a pair that was checked.
-use Rattle.std.specs.Prelude.{◌≡◌, ◌≤◌, ◌^◌, None, length}
+use Rattle.std.specs.Prelude.{◌≡◌, None}
+use Rattle.pddl_terms.specs.Readable.{IsReadable}
 use Rattle.pddl_types.specs.declared.pairs.Pair.{Pair}
-use Rattle.pddl_types.specs.Faults.{first_fault}
+use Rattle.pddl_types.specs.Faults.{earliest_fault}
 use Rattle.pddl_types.specs.Checks.{faults_of}
 
--- the pair has no fault, and not more constants, objects and actions than are counted
+-- the pair is as texts spell it, and has no fault
 pub record IsChecked (p : Pair) : Type 0 where
-  pub no_fault : first_fault (faults_of p) ≡ None
-  pub few_constants : length p.domain.constants ≤ 2 ^ 30
-  pub few_objects : length p.problem.objects ≤ 2 ^ 30
-  pub few_actions : length p.domain.schemas ≤ 2 ^ 30
+  pub readable : IsReadable p.domain p.problem
+  pub no_fault : earliest_fault (faults_of p) ≡ None

@@ -1,5 +1,5 @@
 -- The faults of a pair, and which of them comes first.
-use Rattle.std.specs.Prelude.{ℕ, ◌||◌, ◌&&◌, ◌==◌, Bool, List, [], ◌∷◌, Option, Some, None, fold, nat_lt, if◌then◌else◌}
+use Rattle.std.specs.Prelude.{ℕ, ◌||◌, ◌&&◌, ◌==◌, Bool, List, Option, Some, None, fold, nat_lt, if◌then◌else◌}
 use Rattle.pddl_terms.specs.declared.names.Name.{Name}
 use Rattle.pddl_types.specs.declared.faults.Side.{Side}
 use Rattle.pddl_types.specs.declared.faults.Side.TheVariants as side
@@ -7,45 +7,44 @@ use Rattle.pddl_types.specs.declared.faults.CheckKind.{CheckKind}
 use Rattle.pddl_types.specs.declared.faults.CheckKind.TheVariants as kind
 use Rattle.pddl_types.specs.declared.faults.Fault.{Fault}
 
+abbrev pub check_fault : Side → CheckKind → Name → Fault
+check_fault side kind name = record { side = side; kind = kind; name = name }
+
+-- ---- order
+
 -- the domain comes before the problem
 abbrev pub side_rank : Side → ℕ
 side_rank side.Domain = 0
 side_rank side.Problem = 1
 
 -- the order of reasons at one place
-abbrev pub rank_of : CheckKind → ℕ
-rank_of kind.Duplicate = 0
-rank_of kind.UnknownType = 1
-rank_of kind.CyclicType = 2
-rank_of kind.UnknownName = 3
-rank_of kind.Arity = 4
-rank_of kind.WrongType = 5
-rank_of kind.Divide = 6
+abbrev pub kind_rank : CheckKind → ℕ
+kind_rank kind.Duplicate = 0
+kind_rank kind.UnknownType = 1
+kind_rank kind.CyclicType = 2
+kind_rank kind.UnknownName = 3
+kind_rank kind.Arity = 4
+kind_rank kind.WrongType = 5
+kind_rank kind.Divide = 6
 
--- of two faults of one file the one at the smaller position comes before, and at one place the reason of smaller rank
-abbrev pub is_before_there : Fault → Fault → Bool
-is_before_there f g = nat_lt f.name.at g.name.at || (f.name.at == g.name.at && nat_lt (rank_of f.kind) (rank_of g.kind))
+-- of two faults of one file the one at the smaller position is earlier, and at one place the reason of smaller rank
+abbrev pub is_earlier_there : Fault → Fault → Bool
+is_earlier_there f g = nat_lt f.name.at g.name.at || (f.name.at == g.name.at && nat_lt (kind_rank f.kind) (kind_rank g.kind))
 
--- a fault of the domain comes before one of the problem
-abbrev pub is_before : Fault → Fault → Bool
-is_before f g = nat_lt (side_rank f.side) (side_rank g.side) || (side_rank f.side == side_rank g.side && is_before_there f g)
+-- a fault of the domain is earlier than one of the problem
+abbrev pub is_earlier : Fault → Fault → Bool
+is_earlier f g = nat_lt (side_rank f.side) (side_rank g.side) || (side_rank f.side == side_rank g.side && is_earlier_there f g)
 
-abbrev pub fault_at : Side → CheckKind → Name → Fault
-fault_at side kind name = record { side = side; kind = kind; name = name }
-
--- a fault where a test fails
-abbrev pub unless : Bool → Fault → List Fault
-unless test fault = if test then [] else fault ∷ []
+-- ---- the first
 
 -- the first of the faults so far and a further one
-abbrev pub noted : Option Fault → Fault → Option Fault
-noted None fault = Some fault
-noted (Some first) fault = if is_before fault first then Some fault else Some first
+abbrev pub with_fault : Option Fault → Fault → Option Fault
+with_fault None fault = Some fault
+with_fault (Some first) fault = if is_earlier fault first then Some fault else Some first
 
 -- the first of the faults so far and further ones
-abbrev pub all_noted : Option Fault → List Fault → Option Fault
-all_noted first faults = fold noted first faults
+abbrev pub with_faults : Option Fault → List Fault → Option Fault
+with_faults first faults = fold with_fault first faults
 
--- the first of the faults
-abbrev pub first_fault : List Fault → Option Fault
-first_fault faults = all_noted None faults
+abbrev pub earliest_fault : List Fault → Option Fault
+earliest_fault faults = with_faults None faults

@@ -1,9 +1,11 @@
+pub mod Pairs
+pub mod Meanings
 pub mod Faults
-pub mod Types
+pub mod DeclarationFaults
+pub mod UseFaults
 pub mod Checks
+pub mod Contents
 pub mod WellFormed
-pub mod Numberings
-pub mod Tables
 pub mod Answers
 pub mod Checked
-pub mod Cycles
+pub mod internal

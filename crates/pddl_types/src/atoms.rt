@@ -2,8 +2,9 @@
 
 ghost use Rattle.std.specs.Prelude.{◌≡◌, OnOk, IfOk, drop, slice_get};
 ghost use Rattle.std.specs.Option.{option_copied};
-ghost use Rattle.pddl_types.specs.Faults.{all_noted};
-ghost use Rattle.pddl_types.specs.Checks.{argument_faults, argument_name, arguments_faults, atom_faults, declared_faults, kind_faults, suits};
+ghost use Rattle.pddl_types.specs.Pairs.{argument_name};
+ghost use Rattle.pddl_types.specs.UseFaults.{argument_faults, arguments_faults, atom_faults, declared_faults, kind_faults, suits};
+ghost use Rattle.pddl_types.specs.internal.Notes.{Noted};
 
 use crate::faults::{CheckKind, Side};
 use crate::first::Notes;
@@ -33,9 +34,10 @@ pub(crate) fn argument_name(arg: &Arg) -> &Name
 fn suits(named: &Named, arg: &Arg, own: &[u8], wanted: &[u8]) -> bool
     ensures { result ≡ suits named.now.domain.types arg.now own.now wanted.now }
 {
+    let order = named.order();
     match arg {
-        Arg::Var(_) => named.is_within(own, wanted) || named.descends(wanted, own),
-        Arg::Obj(_) => named.is_within(own, wanted),
+        Arg::Var(_) => order.is_within(own, wanted) || order.descends(wanted, own),
+        Arg::Obj(_) => order.is_within(own, wanted),
     }
 }
 
@@ -47,7 +49,7 @@ fn note_kind(
     own: &Typed,
     notes: &mut Notes,
 ) -> Result<(), NoMemory>
-    ensures { OnOk result (notes.new.first ≡ all_noted notes.old.first (kind_faults scope.now.named.now scope.now.side (option_copied wanted.entry) arg.now own.now)) }
+    ensures { OnOk result (Noted notes.old notes.new (kind_faults scope.now.named.now scope.now.side (option_copied wanted.entry) arg.now own.now)) }
 {
     if let Some(wanted) = wanted {
         let fits = suits(
@@ -71,7 +73,7 @@ pub(crate) fn note_argument(
     arg: &Arg,
     notes: &mut Notes,
 ) -> Result<(), NoMemory>
-    ensures { OnOk result (notes.new.first ≡ all_noted notes.old.first (argument_faults scope.now.named.now scope.now.side scope.now.params.now (option_copied wanted.entry) arg.now)) }
+    ensures { OnOk result (Noted notes.old notes.new (argument_faults scope.now.named.now scope.now.side scope.now.params.now (option_copied wanted.entry) arg.now)) }
 {
     match scope.named.named_by(scope.side, scope.params, arg) {
         Some(own) => note_kind(alloc, scope, wanted, arg, own, notes),
@@ -93,7 +95,7 @@ fn note_first<'a>(
     notes: &mut Notes,
 ) -> Result<&'a [Typed], NoMemory>
     ensures rest { IfOk result (λ rest. rest.now ≡ drop 1 wanted.now) }
-    ensures faults { OnOk result (notes.new.first ≡ all_noted notes.old.first (argument_faults scope.now.named.now scope.now.side scope.now.params.now (slice_get wanted.now 0) arg.now)) }
+    ensures faults { OnOk result (Noted notes.old notes.new (argument_faults scope.now.named.now scope.now.side scope.now.params.now (slice_get wanted.now 0) arg.now)) }
 {
     match wanted {
         [] => {
@@ -114,7 +116,7 @@ fn note_arguments(
     args: &[Arg],
     notes: &mut Notes,
 ) -> Result<(), NoMemory>
-    ensures { OnOk result (notes.new.first ≡ all_noted notes.old.first (arguments_faults scope.now.named.now scope.now.side scope.now.params.now wanted.now args.now)) }
+    ensures { OnOk result (Noted notes.old notes.new (arguments_faults scope.now.named.now scope.now.side scope.now.params.now wanted.now args.now)) }
 {
     let mut wanted = wanted;
     'each: for arg in args {
@@ -130,7 +132,7 @@ fn note_declared(
     sig: &Sig,
     notes: &mut Notes,
 ) -> Result<(), NoMemory>
-    ensures { OnOk result (notes.new.first ≡ all_noted notes.old.first (declared_faults scope.now.named.now scope.now.side scope.now.params.now atom.now sig.now)) }
+    ensures { OnOk result (Noted notes.old notes.new (declared_faults scope.now.named.now scope.now.side scope.now.params.now atom.now sig.now)) }
 {
     if sig.params.len() == atom.args.len() {
         return note_arguments(
@@ -153,7 +155,7 @@ pub(crate) fn note_atom(
     atom: &Atom,
     notes: &mut Notes,
 ) -> Result<(), NoMemory>
-    ensures { OnOk result (notes.new.first ≡ all_noted notes.old.first (atom_faults scope.now.named.now scope.now.side scope.now.params.now sort atom.now)) }
+    ensures { OnOk result (Noted notes.old notes.new (atom_faults scope.now.named.now scope.now.side scope.now.params.now sort atom.now)) }
 {
     match scope.named.sig_of(sort, atom.head.text.as_slice()) {
         Some(sig) => note_declared(alloc, scope, atom, sig, notes),

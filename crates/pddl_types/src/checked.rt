@@ -2,17 +2,19 @@
 
 ghost use Rattle.std.specs.Prelude.{◌≡◌, ◌+◌, ◌<◌, ◌++◌, Some, length, slice_get};
 ghost use Rattle.pddl_terms.specs.declared.names.Typed.{Typed};
-ghost use Rattle.pddl_types.specs.Types.{is_within};
+ghost use Rattle.pddl_terms.specs.Readable.{IsReadable};
+ghost use Rattle.name_table.specs.Tables.{place_in};
+ghost use Rattle.name_table.specs.TypedLists.{names_of};
+ghost use Rattle.type_order.specs.Types.{is_within};
 ghost use Rattle.pddl_types.specs.Checked.{IsChecked};
-ghost use Rattle.pddl_types.specs.Checks.{names_of, objects_of, schema_names};
-ghost use Rattle.pddl_types.specs.Numberings.{place_in};
+ghost use Rattle.pddl_types.specs.Pairs.{heads_of, objects_of, schema_names};
 ghost use Rattle.pddl_types.specs.WellFormed.{WellFormed};
 
 use crate::named::Named;
 use pddl_terms::{Domain, Name, Problem, Typed};
 use std::marker::Model;
 
-/// A well-formed domain and problem. Contracts see the pair.
+/// A well-formed domain and problem that are as texts spell them. Contracts see the pair.
 #[derive(Drop)]
 pub struct Checked {
     named: Named,
@@ -42,17 +44,19 @@ impl Checked {
         Checked { named }
     }
 
-    /// The domain. What was checked is well formed.
+    /// The domain. What was checked is well formed, and as texts spell it.
     pub fn domain(&self) -> &Domain
         ensures domain { result.now ≡ self.now.domain }
+        ensures readable { IsReadable self.now.domain self.now.problem }
         ensures well_formed { WellFormed self.now }
     {
         self.named.domain()
     }
 
-    /// The problem. What was checked is well formed.
+    /// The problem. What was checked is well formed, and as texts spell it.
     pub fn problem(&self) -> &Problem
         ensures problem { result.now ≡ self.now.problem }
+        ensures readable { IsReadable self.now.domain self.now.problem }
         ensures well_formed { WellFormed self.now }
     {
         self.named.problem()
@@ -94,6 +98,26 @@ impl Checked {
         }
     }
 
+    /// The number of a predicate in the order of the file; none where the name isn't declared.
+    pub fn predicate_number(&self, text: &[u8]) -> Option<u32>
+        ensures { result ≡ place_in text.now (heads_of self.now.domain.predicates) }
+    {
+        match self.named.predicate_number(text) {
+            Some(number) => Some(number as u32),
+            None => None,
+        }
+    }
+
+    /// The number of a function in the order of the file; none where the name isn't declared.
+    pub fn function_number(&self, text: &[u8]) -> Option<u32>
+        ensures { result ≡ place_in text.now (heads_of self.now.domain.functions) }
+    {
+        match self.named.function_number(text) {
+            Some(number) => Some(number as u32),
+            None => None,
+        }
+    }
+
     /// The number of an action in the order of the file; none where the name isn't declared.
     pub fn schema_number(&self, text: &[u8]) -> Option<u32>
         ensures { result ≡ place_in text.now (schema_names self.now.domain.schemas) }
@@ -111,6 +135,7 @@ impl Checked {
     {
         let own = self.object(object);
         self.named
+            .order()
             .is_within(own.kind.text.as_slice(), kind.text.as_slice())
     }
 }

@@ -1,8 +1,8 @@
 //! The faults of expressions, conditions and effects.
 
 ghost use Rattle.std.specs.Prelude.{◌≡◌, OnOk, flat_map, false, None};
-ghost use Rattle.pddl_types.specs.Faults.{all_noted};
-ghost use Rattle.pddl_types.specs.Checks.{condition_faults, effect_faults, expression_faults, is_division, read_faults};
+ghost use Rattle.pddl_types.specs.UseFaults.{condition_faults, effect_faults, expression_faults, is_division, read_faults};
+ghost use Rattle.pddl_types.specs.internal.Notes.{Noted};
 ghost use Rattle.pddl_types.specs.declared.faults.Side.TheVariants as sides;
 
 use crate::atoms::{Scope, note_argument, note_atom};
@@ -29,7 +29,7 @@ fn note_read(
     divisor: bool,
     notes: &mut Notes,
 ) -> Result<(), NoMemory>
-    ensures { OnOk result (notes.new.first ≡ all_noted notes.old.first (read_faults scope.now.named.now scope.now.side scope.now.params.now atom.now divisor)) }
+    ensures { OnOk result (Noted notes.old notes.new (read_faults scope.now.named.now scope.now.side scope.now.params.now atom.now divisor)) }
 {
     note_atom(alloc, scope, Sort::Function, atom, notes)?;
     if divisor && scope.named.is_changed(atom.head.text.as_slice()) {
@@ -47,7 +47,7 @@ pub(crate) fn note_expression(
     divisor: bool,
     notes: &mut Notes,
 ) -> Result<(), NoMemory>
-    ensures { OnOk result (notes.new.first ≡ all_noted notes.old.first (expression_faults scope.now.named.now scope.now.side scope.now.params.now expr.now divisor)) }
+    ensures { OnOk result (Noted notes.old notes.new (expression_faults scope.now.named.now scope.now.side scope.now.params.now expr.now divisor)) }
 {
     match expr {
         Expr::Lit(_, _) => Ok(()),
@@ -74,7 +74,7 @@ pub(crate) fn note_condition(
     cond: &Cond,
     notes: &mut Notes,
 ) -> Result<(), NoMemory>
-    ensures { OnOk result (notes.new.first ≡ all_noted notes.old.first (condition_faults scope.now.named.now scope.now.side scope.now.params.now cond.now)) }
+    ensures { OnOk result (Noted notes.old notes.new (condition_faults scope.now.named.now scope.now.side scope.now.params.now cond.now)) }
 {
     match cond {
         Cond::And(conds) => note_conditions(alloc, scope, conds.as_slice(), notes),
@@ -105,7 +105,7 @@ fn note_conditions(
     conds: &[Cond],
     notes: &mut Notes,
 ) -> Result<(), NoMemory>
-    ensures { OnOk result (notes.new.first ≡ all_noted notes.old.first (flat_map (condition_faults scope.now.named.now scope.now.side scope.now.params.now) conds.now)) }
+    ensures { OnOk result (Noted notes.old notes.new (flat_map (condition_faults scope.now.named.now scope.now.side scope.now.params.now) conds.now)) }
 {
     'each: for cond in conds {
         note_condition(alloc, scope, cond, notes)?;
@@ -119,7 +119,7 @@ fn note_effect(
     effect: &Effect,
     notes: &mut Notes,
 ) -> Result<(), NoMemory>
-    ensures { OnOk result (notes.new.first ≡ all_noted notes.old.first (effect_faults scope.now.named.now scope.now.side scope.now.params.now effect.now)) }
+    ensures { OnOk result (Noted notes.old notes.new (effect_faults scope.now.named.now scope.now.side scope.now.params.now effect.now)) }
 {
     match effect {
         Effect::Add(atom) => note_atom(alloc, scope, Sort::Predicate, atom, notes),
@@ -138,7 +138,7 @@ pub(crate) fn note_effects(
     effects: &[Effect],
     notes: &mut Notes,
 ) -> Result<(), NoMemory>
-    ensures { OnOk result (notes.new.first ≡ all_noted notes.old.first (flat_map (effect_faults scope.now.named.now scope.now.side scope.now.params.now) effects.now)) }
+    ensures { OnOk result (Noted notes.old notes.new (flat_map (effect_faults scope.now.named.now scope.now.side scope.now.params.now) effects.now)) }
 {
     'each: for effect in effects {
         note_effect(alloc, scope, effect, notes)?;

@@ -1,21 +1,65 @@
 //! The faults of declarations: of types, constants and objects, predicates and functions, and actions.
 
-ghost use Rattle.std.specs.Prelude.{◌≡◌, ◌++◌, [], OnOk, flat_map};
-ghost use Rattle.pddl_types.specs.declared.faults.Side.TheVariants as sides;
-ghost use Rattle.pddl_types.specs.Faults.{all_noted};
-ghost use Rattle.pddl_types.specs.Checks.{names_of, parameter_faults, repeated_heads, repeated_sections, schema_faults, signature_faults, type_faults, typed_faults, unknown_types, with_names};
+ghost use Rattle.std.specs.Prelude.{◌≡◌, OnOk, flat_map, map};
+ghost use Rattle.name_table.specs.TypedLists.{names_of};
+ghost use Rattle.pddl_types.specs.DeclarationFaults.{cyclic_types, parameter_faults, repeated, repeated_heads, repeated_in_both, signature_faults, typed_faults, types_faults, unknown_types, with_names};
+ghost use Rattle.pddl_types.specs.Checks.{schema_faults};
+ghost use Rattle.pddl_types.specs.internal.Notes.{Noted};
 
 use crate::atoms::Scope;
 use crate::conditions::{note_condition, note_effects};
-use crate::cycles::note_cyclic;
 use crate::faults::{CheckKind, Side};
 use crate::first::Notes;
-use crate::lists::{heads_of, names_of};
+use crate::lists::heads_of;
 use crate::named::{Named, functions_first};
-use crate::seen::{Seen, note_repeated};
+use name_table::{NameSet, names_of};
 use num_ends::NoMemory;
-use pddl_terms::{Schema, Sig, Typed};
+use pddl_terms::{Name, Schema, Sig, Typed};
 use std::alloc::Global;
+use type_order::Cycles;
+
+/// Notes the names that stand again, where some were seen before.
+pub(crate) fn note_repeated<'a>(
+    alloc: Global,
+    side: Side,
+    names: &[&'a Name],
+    seen: &mut NameSet<'a>,
+    notes: &mut Notes,
+) -> Result<(), NoMemory>
+    ensures faults { OnOk result (Noted notes.old notes.new (repeated side seen.old (map (λ n. n.now) names.now))) }
+    ensures after { OnOk result (seen.new ≡ with_names seen.old (map (λ n. n.now) names.now)) }
+{
+    'each: for name in names {
+        if !seen.add(name.text.as_slice())? {
+            notes.note(alloc, side, CheckKind::Duplicate, name)?;
+        }
+    }
+    Ok(())
+}
+
+// Notes the types of a list that are their own ancestors.
+fn note_cycles(
+    alloc: Global,
+    cycles: &Cycles,
+    items: &[Typed],
+    notes: &mut Notes,
+) -> Result<(), NoMemory>
+    ensures { OnOk result (Noted notes.old notes.new (cyclic_types cycles.now items.now)) }
+{
+    'each: for item in items {
+        if cycles.has(item.name.text.as_slice()) {
+            notes.note(alloc, Side::Domain, CheckKind::CyclicType, &item.name)?;
+        }
+    }
+    Ok(())
+}
+
+fn note_cyclic(alloc: Global, named: &Named, notes: &mut Notes) -> Result<(), NoMemory>
+    ensures { OnOk result (Noted notes.old notes.new (cyclic_types named.now.domain.types named.now.domain.types)) }
+{
+    let cycles = Cycles::find(alloc, named.order())?;
+    note_cycles(alloc, &cycles, named.domain().types.as_slice(), notes)
+}
 
 fn note_unknown_types(
     alloc: Global,
@@ -24,10 +68,11 @@ fn note_unknown_types(
     items: &[Typed],
     notes: &mut Notes,
 ) -> Result<(), NoMemory>
-    ensures { OnOk result (notes.new.first ≡ all_noted notes.old.first (unknown_types named.now.domain.types side items.now)) }
+    ensures { OnOk result (Noted notes.old notes.new (unknown_types named.now.domain.types side items.now)) }
 {
+    let order = named.order();
     'each: for item in items {
-        if !named.is_declared(item.kind.text.as_slice()) {
+        if !order.is_declared(item.kind.text.as_slice()) {
             notes.note(alloc, side, CheckKind::UnknownType, &item.kind)?;
         }
     }
@@ -41,10 +86,10 @@ pub(crate) fn note_typed<'a>(
     named: &Named,
     side: Side,
     items: &'a [Typed],
-    seen: &mut Seen<'a>,
+    seen: &mut NameSet<'a>,
     notes: &mut Notes,
 ) -> Result<(), NoMemory>
-    ensures faults { OnOk result (notes.new.first ≡ all_noted notes.old.first (typed_faults named.now.domain.types side seen.old items.now)) }
+    ensures faults { OnOk result (Noted notes.old notes.new (typed_faults named.now.domain.types side seen.old items.now)) }
     ensures after { OnOk result (seen.new ≡ with_names seen.old (names_of items.now)) }
 {
     note_unknown_types(alloc, named, side, items, notes)?;
@@ -55,11 +100,11 @@ pub(crate) fn note_typed<'a>(
 /// Notes the faults of the types.
 #[tactic(auto, using(crate::proofs::Noted::noted_append))]
 pub(crate) fn note_types(alloc: Global, named: &Named, notes: &mut Notes) -> Result<(), NoMemory>
-    ensures { OnOk result (notes.new.first ≡ all_noted notes.old.first (type_faults named.now.domain.types)) }
+    ensures { OnOk result (Noted notes.old notes.new (types_faults named.now.domain.types)) }
 {
     let types = named.domain().types.as_slice();
     let names = names_of(alloc, types)?;
-    let mut seen = Seen::new(alloc);
+    let mut seen = NameSet::new(alloc);
     seen.add(b"object")?;
     note_repeated(alloc, Side::Domain, names.as_slice(), &mut seen, notes)?;
     note_unknown_types(alloc, named, Side::Domain, types, notes)?;
@@ -72,11 +117,11 @@ fn note_two_sections(
     second: &[Sig],
     notes: &mut Notes,
 ) -> Result<(), NoMemory>
-    ensures { OnOk result (notes.new.first ≡ all_noted notes.old.first (repeated_sections first.now second.now)) }
+    ensures { OnOk result (Noted notes.old notes.new (repeated_in_both first.now second.now)) }
 {
     let first_names = heads_of(alloc, first)?;
     let second_names = heads_of(alloc, second)?;
-    let mut seen = Seen::new(alloc);
+    let mut seen = NameSet::new(alloc);
     note_repeated(
         alloc,
         Side::Domain,
@@ -95,7 +140,7 @@ fn note_two_sections(
 
 /// Notes the predicates and functions that are declared again.
 pub(crate) fn note_heads(alloc: Global, named: &Named, notes: &mut Notes) -> Result<(), NoMemory>
-    ensures { OnOk result (notes.new.first ≡ all_noted notes.old.first (repeated_heads named.now.domain)) }
+    ensures { OnOk result (Noted notes.old notes.new (repeated_heads named.now.domain)) }
 {
     let predicates = named.domain().predicates.as_slice();
     let functions = named.domain().functions.as_slice();
@@ -111,9 +156,9 @@ fn note_parameters(
     params: &[Typed],
     notes: &mut Notes,
 ) -> Result<(), NoMemory>
-    ensures { OnOk result (notes.new.first ≡ all_noted notes.old.first (parameter_faults named.now.domain.types params.now)) }
+    ensures { OnOk result (Noted notes.old notes.new (parameter_faults named.now.domain.types params.now)) }
 {
-    let mut seen = Seen::new(alloc);
+    let mut seen = NameSet::new(alloc);
     note_typed(alloc, named, Side::Domain, params, &mut seen, notes)
 }
 
@@ -124,7 +169,7 @@ pub(crate) fn note_signatures(
     sigs: &[Sig],
     notes: &mut Notes,
 ) -> Result<(), NoMemory>
-    ensures { OnOk result (notes.new.first ≡ all_noted notes.old.first (signature_faults named.now.domain.types sigs.now)) }
+    ensures { OnOk result (Noted notes.old notes.new (signature_faults named.now.domain.types sigs.now)) }
 {
     'each: for sig in sigs {
         note_parameters(alloc, named, sig.params.as_slice(), notes)?;
@@ -139,7 +184,7 @@ fn note_schema(
     schema: &Schema,
     notes: &mut Notes,
 ) -> Result<(), NoMemory>
-    ensures { OnOk result (notes.new.first ≡ all_noted notes.old.first (schema_faults named.now schema.now)) }
+    ensures { OnOk result (Noted notes.old notes.new (schema_faults named.now schema.now)) }
 {
     let params = schema.params.as_slice();
     let scope = Scope {
@@ -159,7 +204,7 @@ pub(crate) fn note_schemas(
     schemas: &[Schema],
     notes: &mut Notes,
 ) -> Result<(), NoMemory>
-    ensures { OnOk result (notes.new.first ≡ all_noted notes.old.first (flat_map (schema_faults named.now) schemas.now)) }
+    ensures { OnOk result (Noted notes.old notes.new (flat_map (schema_faults named.now) schemas.now)) }
 {
     'each: for schema in schemas {
         note_schema(alloc, named, schema, notes)?;

@@ -1,8 +1,9 @@
 //! The faults of the initial state.
 
 ghost use Rattle.std.specs.Prelude.{◌≡◌, ◌++◌, [], IfOk, OnOk, map, not};
-ghost use Rattle.pddl_types.specs.Faults.{all_noted};
-ghost use Rattle.pddl_types.specs.Checks.{argument_text, facts_faults, fluent_of, fluents_faults, is_valued, repeated_values, with_fluent};
+ghost use Rattle.pddl_types.specs.Pairs.{fluent_of, written_text};
+ghost use Rattle.pddl_types.specs.UseFaults.{facts_faults, fluents_faults, has_value, repeated_values, with_fluent};
+ghost use Rattle.pddl_types.specs.internal.Notes.{Noted};
 
 use crate::atoms::{Scope, argument_name, note_atom};
 use crate::faults::{CheckKind, Side};
@@ -39,7 +40,7 @@ impl<'a> Valued<'a> {
 
     // Adds a fluent, and tells whether it is new.
     fn add(&mut self, fluent: Vec<&'a [u8]>) -> Result<bool, NoMemory>
-        ensures new { IfOk result (λ new. new ≡ not (is_valued (map (λ t. t.now) fluent.entry.items) self.old)) }
+        ensures new { IfOk result (λ new. new ≡ not (has_value (map (λ t. t.now) fluent.entry.items) self.old)) }
         ensures after { OnOk result (self.new ≡ with_fluent self.old (map (λ t. t.now) fluent.entry.items)) }
     {
         let new = self.fluents.insert(fluent)?;
@@ -48,7 +49,7 @@ impl<'a> Valued<'a> {
 }
 
 fn push_arguments<'a>(args: &'a [Arg], texts: &mut Vec<&'a [u8]>) -> Result<(), NoMemory>
-    ensures { OnOk result (map (λ t. t.now) texts.new.items ≡ map (λ t. t.now) texts.old.items ++ map argument_text args.now) }
+    ensures { OnOk result (map (λ t. t.now) texts.new.items ≡ map (λ t. t.now) texts.old.items ++ map written_text args.now) }
 {
     'each: for arg in args {
         texts.push(argument_name(arg).text.as_slice())?;
@@ -67,14 +68,14 @@ fn fluent_of<'a>(alloc: Global, atom: &'a Atom) -> Result<Vec<&'a [u8]>, NoMemor
 }
 
 /// Notes the faults of the facts.
-#[tactic(auto, unfolding(crate::specs::Checks::facts_faults))]
+#[tactic(auto, unfolding(crate::specs::UseFaults::facts_faults))]
 pub(crate) fn note_facts(
     alloc: Global,
     scope: &Scope,
     facts: &[Atom],
     notes: &mut Notes,
 ) -> Result<(), NoMemory>
-    ensures { OnOk result (notes.new.first ≡ all_noted notes.old.first (facts_faults scope.now.named.now scope.now.side scope.now.params.now facts.now)) }
+    ensures { OnOk result (Noted notes.old notes.new (facts_faults scope.now.named.now scope.now.side scope.now.params.now facts.now)) }
 {
     'each: for fact in facts {
         note_atom(alloc, scope, Sort::Predicate, fact, notes)?;
@@ -83,14 +84,14 @@ pub(crate) fn note_facts(
 }
 
 /// Notes the faults of the fluents with values.
-#[tactic(auto, unfolding(crate::specs::Checks::fluents_faults))]
+#[tactic(auto, unfolding(crate::specs::UseFaults::fluents_faults))]
 pub(crate) fn note_fluents(
     alloc: Global,
     scope: &Scope,
     values: &[(Atom, Dec)],
     notes: &mut Notes,
 ) -> Result<(), NoMemory>
-    ensures { OnOk result (notes.new.first ≡ all_noted notes.old.first (fluents_faults scope.now.named.now scope.now.side scope.now.params.now values.now)) }
+    ensures { OnOk result (Noted notes.old notes.new (fluents_faults scope.now.named.now scope.now.side scope.now.params.now values.now)) }
 {
     'each: for value in values {
         note_atom(alloc, scope, Sort::Function, &value.0, notes)?;
@@ -104,7 +105,7 @@ pub(crate) fn note_repeated_values(
     values: &[(Atom, Dec)],
     notes: &mut Notes,
 ) -> Result<(), NoMemory>
-    ensures { OnOk result (notes.new.first ≡ all_noted notes.old.first (repeated_values [] values.now)) }
+    ensures { OnOk result (Noted notes.old notes.new (repeated_values [] values.now)) }
 {
     let mut valued = Valued::new(alloc);
     'each: for value in values {

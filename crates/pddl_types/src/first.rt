@@ -1,7 +1,7 @@
 //! The first of the faults that were found so far.
 
 ghost use Rattle.std.specs.Prelude.{◌≡◌, OnOk, IfOk};
-ghost use Rattle.pddl_types.specs.Faults.{fault_at, is_before, is_before_there, noted, rank_of, side_rank};
+ghost use Rattle.pddl_types.specs.Faults.{check_fault, is_earlier, is_earlier_there, kind_rank, side_rank, with_fault};
 
 use crate::faults::{CheckKind, Fault, Side};
 use num_ends::{NoMemory, Text};
@@ -22,7 +22,7 @@ impl Side {
 impl CheckKind {
     /// The order of reasons at one place.
     fn rank(self) -> u8
-        ensures { result ≡ rank_of self }
+        ensures { result ≡ kind_rank self }
     {
         match self {
             CheckKind::Duplicate => 0,
@@ -36,18 +36,18 @@ impl CheckKind {
     }
 }
 
-// Whether a fault comes before another one of the same file.
-fn is_before_there(side: Side, kind: CheckKind, name: &Name, first: &Fault) -> bool
-    ensures { result ≡ is_before_there (fault_at side kind name.now) first.now }
+// Whether a fault is earlier than another one of the same file.
+fn is_earlier_there(side: Side, kind: CheckKind, name: &Name, first: &Fault) -> bool
+    ensures { result ≡ is_earlier_there (check_fault side kind name.now) first.now }
 {
     name.at < first.name.at || (name.at == first.name.at && kind.rank() < first.kind.rank())
 }
 
-fn is_before(side: Side, kind: CheckKind, name: &Name, first: &Fault) -> bool
-    ensures { result ≡ is_before (fault_at side kind name.now) first.now }
+fn is_earlier(side: Side, kind: CheckKind, name: &Name, first: &Fault) -> bool
+    ensures { result ≡ is_earlier (check_fault side kind name.now) first.now }
 {
     side.rank() < first.side.rank()
-        || (side.rank() == first.side.rank() && is_before_there(side, kind, name, first))
+        || (side.rank() == first.side.rank() && is_earlier_there(side, kind, name, first))
 }
 
 fn copied(alloc: Global, name: &Name) -> Result<Name, NoMemory>
@@ -81,10 +81,10 @@ impl Notes {
         kind: CheckKind,
         name: &Name,
     ) -> Result<(), NoMemory>
-        ensures { OnOk result (self.new.first ≡ noted self.old.first (fault_at side kind name.now)) }
+        ensures { OnOk result (self.new.first ≡ with_fault self.old.first (check_fault side kind name.now)) }
     {
         match &self.first {
-            Some(first) if !is_before(side, kind, name, first) => {}
+            Some(first) if !is_earlier(side, kind, name, first) => {}
             _ => {
                 let name = copied(alloc, name)?;
                 self.first = Some(Fault { side, kind, name });

@@ -5,7 +5,6 @@ mod atoms;
 mod checked;
 mod checking;
 mod conditions;
-mod cycles;
 mod declarations;
 mod entries;
 mod faults;
@@ -13,15 +12,11 @@ mod first;
 mod laws;
 mod lists;
 mod named;
-mod numbers;
 mod pairs;
-mod seen;
+mod tables;
 
 pub use checked::Checked;
 pub use checking::check;
 pub use faults::{CheckFault, CheckKind, Side};
-pub use laws::{descent_is_tested, faultless_pairs_are_well_formed, first_fault_is_first};
+pub use laws::{faultless_pairs_are_well_formed, first_fault_is_first};
 pub use pairs::Pair;
-
-#[cfg(test)]
-mod tests;

@@ -2,25 +2,16 @@
 
 ghost use Rattle.std.specs.Prelude.{◌≡◌, ◌++◌, IfOk, OnOk, flat_map, map};
 ghost use Rattle.std.specs.Option.{option_copied};
-ghost use Rattle.pddl_types.specs.Types.{first_typed};
-ghost use Rattle.pddl_types.specs.Checks.{changed_by, changed_heads, first_sig, heads_of, names_of, schema_names};
-ghost use Rattle.pddl_types.specs.Numberings.{numbered};
+ghost use Rattle.name_table.specs.Tables.{numbered};
+ghost use Rattle.name_table.specs.TypedLists.{first_typed};
+ghost use Rattle.pddl_types.specs.Pairs.{changed_function, changed_heads, heads_of, schema_names};
+ghost use Rattle.pddl_types.specs.Meanings.{first_sig};
 
-use crate::numbers::Numbers;
+use name_table::NameTable;
 use num_ends::NoMemory;
 use pddl_terms::{Effect, Name, Schema, Sig, Typed};
 use sqlite_items::at;
 use std::alloc::Global;
-
-pub(crate) fn names_of<'a>(alloc: Global, items: &'a [Typed]) -> Result<Vec<&'a Name>, NoMemory>
-    ensures { IfOk result (λ names. map (λ n. n.now) names.items ≡ names_of items.now) }
-{
-    let mut names = Vec::new(alloc);
-    'each: for item in items {
-        names.push(&item.name)?;
-    }
-    Ok(names)
-}
 
 pub(crate) fn heads_of<'a>(alloc: Global, sigs: &'a [Sig]) -> Result<Vec<&'a Name>, NoMemory>
     ensures { IfOk result (λ names. map (λ n. n.now) names.items ≡ heads_of sigs.now) }
@@ -46,7 +37,7 @@ pub(crate) fn schema_names<'a>(
 }
 
 fn push_changed<'a>(effects: &'a [Effect], names: &mut Vec<&'a Name>) -> Result<(), NoMemory>
-    ensures { OnOk result (map (λ n. n.now) names.new.items ≡ map (λ n. n.now) names.old.items ++ flat_map changed_by effects.now) }
+    ensures { OnOk result (map (λ n. n.now) names.new.items ≡ map (λ n. n.now) names.old.items ++ flat_map changed_function effects.now) }
 {
     'each: for effect in effects {
         if let Effect::Num(_, atom, _) = effect {
@@ -70,27 +61,12 @@ pub(crate) fn changed_heads<'a>(
     Ok(names)
 }
 
-/// The first in a typed list that has a name.
-pub(crate) fn first_typed<'a>(
-    items: &'a [Typed],
-    numbers: &Numbers,
-    text: &[u8],
-) -> Option<&'a Typed>
-    requires { numbers.now ≡ numbered (names_of items.now) }
-    ensures { option_copied result ≡ first_typed text.now items.now }
-{
-    match numbers.number(text) {
-        Some(place) => at(items, place),
-        None => None,
-    }
-}
-
 /// The first declaration of a predicate or a function that has a name.
-pub(crate) fn first_sig<'a>(sigs: &'a [Sig], numbers: &Numbers, text: &[u8]) -> Option<&'a Sig>
-    requires { numbers.now ≡ numbered (heads_of sigs.now) }
+pub(crate) fn first_sig<'a>(sigs: &'a [Sig], table: &NameTable, text: &[u8]) -> Option<&'a Sig>
+    requires { table.now ≡ numbered (heads_of sigs.now) }
     ensures { option_copied result ≡ first_sig text.now sigs.now }
 {
-    match numbers.number(text) {
+    match table.number(text) {
         Some(place) => at(sigs, place),
         None => None,
     }

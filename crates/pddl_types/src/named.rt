@@ -1,41 +1,37 @@
 //! A pair whose names are found by tables.
 
-ghost use Rattle.std.specs.Prelude.{◌≡◌, ◌++◌, IfOk, bytes_eq};
+ghost use Rattle.std.specs.Prelude.{◌≡◌, ◌++◌, IfOk};
 ghost use Rattle.std.specs.Option.{option_copied};
-ghost use Rattle.pddl_types.specs.Numberings.{place_in};
-ghost use Rattle.pddl_types.specs.Types.{descends, is_declared, first_typed, is_within, parent_of, reaches, top_type};
-ghost use Rattle.pddl_types.specs.Checks.{changed_functions, first_sig, functions_first, is_among, named_by, names_of, objects_of, schema_names, sig_of, visible};
+ghost use Rattle.name_table.specs.Tables.{is_text_among, place_in};
+ghost use Rattle.name_table.specs.TypedLists.{first_typed, names_of};
+ghost use Rattle.pddl_types.specs.Pairs.{changed_functions, heads_of, objects_of, schema_names, visible};
+ghost use Rattle.pddl_types.specs.Meanings.{first_sig, functions_first, named_by, sig_of};
 
 use crate::faults::Side;
-use crate::lists::{
-    changed_heads, first_parameter, first_sig, first_typed, heads_of, names_of, schema_names,
-};
-use crate::numbers::{Numbers, numbered};
+use crate::lists::{first_parameter, first_sig};
 use crate::pairs::{Pair, Sort};
+use crate::tables::DomainTables;
+use name_table::{NameTable, first_typed, typed_table};
 use num_ends::NoMemory;
 use pddl_terms::{Arg, Domain, Problem, Sig, Typed};
 use std::alloc::Global;
 use std::marker::Model;
+use type_order::TypeOrder;
 
 /// A pair with the tables by which its names are found. Contracts see the pair.
 #[derive(Drop)]
 pub(crate) struct Named {
     pair: Pair,
-    types: Numbers,
-    constants: Numbers,
-    objects: Numbers,
-    predicates: Numbers,
-    functions: Numbers,
-    schemas: Numbers,
-    changed: Numbers,
+    tables: DomainTables,
+    objects: NameTable,
 }
 
 impl Model for Named {
     ghost use Rattle.std.specs.Prelude.{◌≡◌};
     ghost use Rattle.pddl_types.specs.declared.pairs.Pair.{Pair};
-    ghost use Rattle.pddl_types.specs.Checks.{names_of};
-    ghost use Rattle.pddl_types.specs.Numberings.{numbered};
-    ghost use Rattle.pddl_types.specs.Tables.{AreDomainNumbers};
+    ghost use Rattle.name_table.specs.Tables.{numbered};
+    ghost use Rattle.name_table.specs.TypedLists.{names_of};
+    ghost use Rattle.pddl_types.specs.internal.Tables.{AreTablesOf};
     ghost use Rattle.pddl_terms.specs.contracts.conditions.Cond as cond;
     ghost use Rattle.pddl_terms.specs.contracts.expressions.Expr as expr;
     ghost use Rattle.std.specs.Coded.{codes};
@@ -46,48 +42,20 @@ impl Model for Named {
 
     ghost view = { λ n. n.pair };
 
-    ghost invariant = { λ n. AreDomainNumbers n.pair.domain n.types n.constants n.predicates n.functions n.schemas n.changed × (n.objects ≡ numbered (names_of n.pair.problem.objects)) };
+    ghost invariant = { λ n. AreTablesOf n.pair.domain n.tables × (n.objects ≡ numbered (names_of n.pair.problem.objects)) };
 }
 
 impl Named {
     pub(crate) fn new(alloc: Global, domain: Domain, problem: Problem) -> Result<Named, NoMemory>
         ensures { IfOk result (λ named. named ≡ record { domain = domain; problem = problem }) }
     {
-        let types = numbered(alloc, names_of(alloc, domain.types.as_slice())?.as_slice())?;
-        let constants = numbered(
-            alloc,
-            names_of(alloc, domain.constants.as_slice())?.as_slice(),
-        )?;
-        let objects = numbered(
-            alloc,
-            names_of(alloc, problem.objects.as_slice())?.as_slice(),
-        )?;
-        let predicates = numbered(
-            alloc,
-            heads_of(alloc, domain.predicates.as_slice())?.as_slice(),
-        )?;
-        let functions = numbered(
-            alloc,
-            heads_of(alloc, domain.functions.as_slice())?.as_slice(),
-        )?;
-        let schemas = numbered(
-            alloc,
-            schema_names(alloc, domain.schemas.as_slice())?.as_slice(),
-        )?;
-        let changed = numbered(
-            alloc,
-            changed_heads(alloc, domain.schemas.as_slice())?.as_slice(),
-        )?;
+        let tables = DomainTables::new(alloc, &domain)?;
+        let objects = typed_table(alloc, problem.objects.as_slice())?;
         let pair = Pair { domain, problem };
         Ok(Named {
             pair,
-            types,
-            constants,
+            tables,
             objects,
-            predicates,
-            functions,
-            schemas,
-            changed,
         })
     }
 
@@ -102,18 +70,13 @@ impl Named {
     {
         &self.pair.problem
     }
-}
 
-fn is_same(text: &[u8], other: &[u8]) -> bool
-    ensures { result ≡ bytes_eq text.now other.now }
-{
-    text == other
-}
-
-fn is_top(kind: &[u8]) -> bool
-    ensures { result ≡ bytes_eq kind.now top_type }
-{
-    is_same(kind, b"object")
+    /// The declared types and their descent.
+    pub(crate) fn order(&self) -> TypeOrder<'_>
+        ensures { result ≡ self.now.domain.types }
+    {
+        TypeOrder::new(self.pair.domain.types.as_slice(), &self.tables.types)
+    }
 }
 
 /// Whether the section of the functions stands before that of the predicates.
@@ -127,64 +90,14 @@ pub(crate) fn functions_first(predicates: &[Sig], functions: &[Sig]) -> bool
 }
 
 impl Named {
-    /// Whether a type is declared.
-    pub(crate) fn is_declared(&self, kind: &[u8]) -> bool
-        ensures { result ≡ is_declared self.now.domain.types kind.now }
-    {
-        is_top(kind) || first_typed(self.pair.domain.types.as_slice(), &self.types, kind).is_some()
-    }
-
-    /// The type right above a declared one.
-    pub(crate) fn parent(&self, kind: &[u8]) -> Option<&[u8]>
-        ensures { option_copied result ≡ parent_of self.now.domain.types kind.now }
-    {
-        if is_top(kind) {
-            return None;
-        }
-        match first_typed(self.pair.domain.types.as_slice(), &self.types, kind) {
-            Some(declared) => Some(declared.kind.text.as_slice()),
-            None => None,
-        }
-    }
-
-    // Whether a type is reached from another by at most as many steps up as there are declarations in a list.
-    fn reaches(&self, steps: &[Typed], own: &[u8], other: &[u8]) -> bool
-        ensures { result ≡ reaches self.now.domain.types steps.now own.now other.now }
-    {
-        let mut kind = own;
-        'steps: for _step in steps {
-            match self.parent(kind) {
-                None => return false,
-                Some(parent) => {
-                    if is_same(parent, other) {
-                        return true;
-                    }
-                    kind = parent;
-                }
-            }
-        }
-        false
-    }
-
-    /// Whether a type descends from another one.
-    #[tactic(auto, unfolding(crate::specs::Types::descends))]
-    pub(crate) fn descends(&self, own: &[u8], other: &[u8]) -> bool
-        ensures { result ≡ descends self.now.domain.types own.now other.now }
-    {
-        self.reaches(self.pair.domain.types.as_slice(), own, other)
-    }
-
-    /// Whether a type is another one or descends from it.
-    pub(crate) fn is_within(&self, own: &[u8], other: &[u8]) -> bool
-        ensures { result ≡ is_within self.now.domain.types own.now other.now }
-    {
-        is_same(own, other) || self.descends(own, other)
-    }
-
     fn constant(&self, text: &[u8]) -> Option<&Typed>
         ensures { option_copied result ≡ first_typed text.now self.now.domain.constants }
     {
-        first_typed(self.pair.domain.constants.as_slice(), &self.constants, text)
+        first_typed(
+            self.pair.domain.constants.as_slice(),
+            &self.tables.constants,
+            text,
+        )
     }
 
     fn object(&self, text: &[u8]) -> Option<&Typed>
@@ -233,7 +146,7 @@ impl Named {
     {
         first_sig(
             self.pair.domain.predicates.as_slice(),
-            &self.predicates,
+            &self.tables.predicates,
             text,
         )
     }
@@ -241,7 +154,11 @@ impl Named {
     fn function(&self, text: &[u8]) -> Option<&Sig>
         ensures { option_copied result ≡ first_sig text.now self.now.domain.functions }
     {
-        first_sig(self.pair.domain.functions.as_slice(), &self.functions, text)
+        first_sig(
+            self.pair.domain.functions.as_slice(),
+            &self.tables.functions,
+            text,
+        )
     }
 
     fn is_function_first(&self) -> bool
@@ -276,40 +193,48 @@ impl Named {
     /// Whether an effect changes the function of this name.
     #[tactic(auto, using(crate::proofs::Found::changed_found))]
     pub(crate) fn is_changed(&self, text: &[u8]) -> bool
-        ensures { result ≡ is_among text.now (changed_functions self.now.domain) }
+        ensures { result ≡ is_text_among text.now (changed_functions self.now.domain) }
     {
-        self.changed.number(text).is_some()
-    }
-
-    /// The place of a type's name among those of the types.
-    #[tactic(auto, using(crate::proofs::Found::place_of))]
-    pub(crate) fn type_number(&self, text: &[u8]) -> Option<usize>
-        ensures { result ≡ place_in text.now (names_of self.now.domain.types) }
-    {
-        self.types.number(text)
+        self.tables.changed.number(text).is_some()
     }
 
     /// The place of a constant's name among those of the constants.
-    #[tactic(auto, using(crate::proofs::Found::place_of))]
+    #[tactic(auto, using(name_table::proofs::Numbered::place_by_table))]
     pub(crate) fn constant_number(&self, text: &[u8]) -> Option<usize>
         ensures { result ≡ place_in text.now (names_of self.now.domain.constants) }
     {
-        self.constants.number(text)
+        self.tables.constants.number(text)
     }
 
     /// The place of an object's name among those of the problem's objects.
-    #[tactic(auto, using(crate::proofs::Found::place_of))]
+    #[tactic(auto, using(name_table::proofs::Numbered::place_by_table))]
     pub(crate) fn object_number(&self, text: &[u8]) -> Option<usize>
         ensures { result ≡ place_in text.now (names_of self.now.problem.objects) }
     {
         self.objects.number(text)
     }
 
+    /// The place of a predicate's name among those of the predicates.
+    #[tactic(auto, using(name_table::proofs::Numbered::place_by_table))]
+    pub(crate) fn predicate_number(&self, text: &[u8]) -> Option<usize>
+        ensures { result ≡ place_in text.now (heads_of self.now.domain.predicates) }
+    {
+        self.tables.predicates.number(text)
+    }
+
+    /// The place of a function's name among those of the functions.
+    #[tactic(auto, using(name_table::proofs::Numbered::place_by_table))]
+    pub(crate) fn function_number(&self, text: &[u8]) -> Option<usize>
+        ensures { result ≡ place_in text.now (heads_of self.now.domain.functions) }
+    {
+        self.tables.functions.number(text)
+    }
+
     /// The place of an action's name among those of the actions.
-    #[tactic(auto, using(crate::proofs::Found::place_of))]
+    #[tactic(auto, using(name_table::proofs::Numbered::place_by_table))]
     pub(crate) fn schema_number(&self, text: &[u8]) -> Option<usize>
         ensures { result ≡ place_in text.now (schema_names self.now.domain.schemas) }
     {
-        self.schemas.number(text)
+        self.tables.schemas.number(text)
     }
 }

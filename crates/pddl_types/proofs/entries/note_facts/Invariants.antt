@@ -1,11 +1,11 @@
 use Rattle.std.proofs.Common.{◌≡◌, drop}
 use Rattle.std.specs.Prelude.{flat_map}
 use Rattle.pddl_types.specs.declared.pairs.Sort.TheVariants.{Predicate}
-use Rattle.pddl_types.specs.Faults.{all_noted}
-use Rattle.pddl_types.specs.Checks.{atom_faults}
+use Rattle.pddl_types.specs.Faults.{with_faults}
+use Rattle.pddl_types.specs.UseFaults.{atom_faults}
 use Rattle.pddl_types.proofs.entries.note_facts.Given as goal
 
 abbrev pub invariant-each : goal.invariant-each
 invariant-each l =
-    all_noted l.notes.first (flat_map (λ a. atom_faults l.scope.named.now l.scope.side l.scope.params.now Predicate a) (drop l.fact-index l.facts))
-    ≡ all_noted l.initial.notes.first (flat_map (λ a. atom_faults l.scope.named.now l.scope.side l.scope.params.now Predicate a) l.facts)
+    with_faults l.notes.first (flat_map (λ a. atom_faults l.scope.named.now l.scope.side l.scope.params.now Predicate a) (drop l.fact-index l.facts))
+    ≡ with_faults l.initial.notes.first (flat_map (λ a. atom_faults l.scope.named.now l.scope.side l.scope.params.now Predicate a) l.facts)

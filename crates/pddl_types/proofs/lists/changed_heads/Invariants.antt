@@ -1,5 +1,5 @@
 use Rattle.std.proofs.Common.{◌≡◌, ◌++◌, drop, map}
-use Rattle.pddl_types.specs.Checks.{changed_heads}
+use Rattle.pddl_types.specs.Pairs.{changed_heads}
 use Rattle.pddl_types.proofs.lists.changed_heads.Given as goal
 
 abbrev pub invariant-each : goal.invariant-each

@@ -1,5 +1,5 @@
 use Rattle.std.proofs.Common.{◌≡◌, ◌++◌, drop, map}
-use Rattle.pddl_types.specs.Checks.{schema_names}
+use Rattle.pddl_types.specs.Pairs.{schema_names}
 use Rattle.pddl_types.proofs.lists.schema_names.Given as goal
 
 abbrev pub invariant-each : goal.invariant-each

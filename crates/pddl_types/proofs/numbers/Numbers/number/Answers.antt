@@ -1,9 +1,0 @@
-use Rattle.std.proofs.Common.{ap, ◌∙◌}
-use Rattle.pddl_types.specs.Numberings.{number_in}
-use Rattle.pddl_types.proofs.Hashed.{looked_up}
-use Rattle.pddl_types.proofs.numbers.Numbers.number.Goals as goal
-
-pub returns : goal.returns
-returns c =
-    c.copied.ensures ∙ c.get.ensures.value ∙ looked_up (λ k. k.items) c.args.text.now c.self.inside.places.entries
-    ∙ ap (number_in c.args.text.now) c.self.view_is

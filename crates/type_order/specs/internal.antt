@@ -1,0 +1,2 @@
+-- Internal: what only the contracts inside this crate speak of.
+pub mod Jumps
