@@ -5,13 +5,13 @@ use Rattle.pddl_meaning.specs.declared.answers.Holds.{Holds}
 use Rattle.pddl_meaning.specs.declared.answers.Holds.TheVariants.{Yes, No, Over}
 use Rattle.pddl_meaning.specs.declared.answers.Stepped.{Stepped}
 use Rattle.pddl_meaning.specs.declared.answers.Stepped.TheVariants as answer
-use Rattle.pddl_meaning.specs.declared.effects.Amount.{Amount}
+use Rattle.pddl_meaning.specs.declared.effects.Evaluation.{Evaluation}
 use Rattle.pddl_meaning.specs.Worlds.{WorldValue}
 use Rattle.pddl_meaning.specs.Truth.{is_defined, is_in_bounds, is_true, literals_true, ranged_truth}
-use Rattle.pddl_meaning.specs.Effects.{are_changes_defined, are_compatible, changes_by}
+use Rattle.pddl_meaning.specs.Effects.{are_effects_defined, are_compatible, numeric_effects}
 use Rattle.pddl_meaning.specs.Steps.{is_ready, ranged_action, ranged_effects}
-use Rattle.pddl_meaning.specs.Computed.{amount_of, effects_answer, over_answer, ready_amounts, ready_answer}
-use Rattle.pddl_meaning.proofs.Induction.{bounds_defined, literals_of_truth}
+use Rattle.pddl_meaning.specs.internal.Computed.{evaluation_of, effects_answer, over_answer, ready_evaluations, ready_answer}
+use Rattle.pddl_meaning.proofs.Comparisons.{bounds_defined, literals_of_truth}
 
 -- the answer by the seven rules, in their order
 abbrev by_rules : (ready literals bounded holds : Bool) → Stepped → Stepped
@@ -38,16 +38,16 @@ over_by false holds h = refl
 over_by true false h = cc
 over_by true true h = cc
 
-some_ready : (b : Bool) (amounts : List Amount) → is_some (if b then Some amounts else None) ≡ b
-some_ready true amounts = refl
-some_ready false amounts = refl
+some_ready : (b : Bool) (evaluations : List Evaluation) → is_some (if b then Some evaluations else None) ≡ b
+some_ready true evaluations = refl
+some_ready false evaluations = refl
 
 module _ (s : Schema) (args : List (List ℕ)) (w : WorldValue) where
   abbrev ready_changes : Bool
-  ready_changes = are_changes_defined s.params args w (changes_by s.params args s.effects) && are_compatible (changes_by s.params args s.effects)
+  ready_changes = are_effects_defined s.params args w (numeric_effects s.params args s.effects) && are_compatible (numeric_effects s.params args s.effects)
 
-  ready_effects : is_some (ready_amounts s.params args w (changes_by s.params args s.effects)) ≡ ready_changes
-  ready_effects = some_ready ready_changes (map (amount_of s.params args w) (changes_by s.params args s.effects))
+  ready_effects : is_some (ready_evaluations s.params args w (numeric_effects s.params args s.effects)) ≡ ready_changes
+  ready_effects = some_ready ready_changes (map (evaluation_of s.params args w) (numeric_effects s.params args s.effects))
 
   pub false_blocks : ranged_truth s.params args w s.pre ≡ No → answer.Blocked ≡ ranged_action s args w
   unfolding ranged_action
@@ -58,7 +58,7 @@ module _ (s : Schema) (args : List (List ℕ)) (w : WorldValue) where
   true_is_ready h =
       let parts = yes_by (is_in_bounds s.params args w s.pre) (is_true s.params args w s.pre) h in
       ap (λ (b : Bool). if b then effects_answer s.params args w s.effects else answer.Blocked) ready_effects
-      ∙ settled (is_defined s.params args w s.pre) (are_changes_defined s.params args w (changes_by s.params args s.effects)) (are_compatible (changes_by s.params args s.effects)) (literals_true s.params args w s.pre true) (is_in_bounds s.params args w s.pre) (is_true s.params args w s.pre) (effects_answer s.params args w s.effects)
+      ∙ settled (is_defined s.params args w s.pre) (are_effects_defined s.params args w (numeric_effects s.params args s.effects)) (are_compatible (numeric_effects s.params args s.effects)) (literals_true s.params args w s.pre true) (is_in_bounds s.params args w s.pre) (is_true s.params args w s.pre) (effects_answer s.params args w s.effects)
       (bounds_defined s.params args w s.pre parts.0) ((literals_of_truth s.params args w s.pre).0 parts.1) parts.0 parts.1
     where
       settled : (defined fluents compatible literals bounded holds : Bool) (effects : Stepped) → defined ≡ true → literals ≡ true → bounded ≡ true → holds ≡ true
@@ -75,7 +75,7 @@ module _ (s : Schema) (args : List (List ℕ)) (w : WorldValue) where
   unfolding ranged_action is_ready
   over_is_settled h =
       ap (λ (b : Bool). if is_defined s.params args w s.pre && b && literals_true s.params args w s.pre true then answer.Over else answer.Blocked) ready_effects
-      ∙ settled (is_defined s.params args w s.pre) (are_changes_defined s.params args w (changes_by s.params args s.effects)) (are_compatible (changes_by s.params args s.effects)) (literals_true s.params args w s.pre true) (is_in_bounds s.params args w s.pre) (is_true s.params args w s.pre) (effects_answer s.params args w s.effects)
+      ∙ settled (is_defined s.params args w s.pre) (are_effects_defined s.params args w (numeric_effects s.params args s.effects)) (are_compatible (numeric_effects s.params args s.effects)) (literals_true s.params args w s.pre true) (is_in_bounds s.params args w s.pre) (is_true s.params args w s.pre) (effects_answer s.params args w s.effects)
       (over_by (is_in_bounds s.params args w s.pre) (is_true s.params args w s.pre) h)
     where
       settled : (defined fluents compatible literals bounded holds : Bool) (effects : Stepped) → bounded ≡ false

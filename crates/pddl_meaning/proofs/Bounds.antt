@@ -14,9 +14,11 @@ use Rattle.pddl_terms.specs.declared.expressions.Op.TheVariants as op
 use Rattle.pddl_terms.specs.declared.expressions.Expr.{Expr, Expr-F}
 use Rattle.pddl_terms.specs.declared.expressions.Expr.TheVariants as expr
 use Rattle.pddl_meaning.specs.Worlds.{WorldValue}
-use Rattle.pddl_meaning.specs.Values.{combined, exactly, in_bounds, inverse_of, ranged_product, value_by, value_layer, where_fits}
-use Rattle.pddl_meaning.specs.Effects.{Change, are_changes_valued, changed_value, changes_on, first_part, further_part, joined_sum, next_value, value_after}
-use Rattle.pddl_meaning.proofs.Folds.{fold-Lit, fold-Read, fold-Op, induct_expression}
+use Rattle.num_ends.specs.Range.{where_fits}
+use Rattle.pddl_meaning.specs.Values.{combined, exactly, in_bounds, inverse_of, ranged_product, value_by, value_layer}
+use Rattle.pddl_meaning.specs.Effects.{NumericEffect, are_effects_valued, changed_value, effects_on, first_part, further_part, joined_sum, next_value, value_after}
+use Rattle.pddl_terms.proofs.Induction.{induct_expression}
+use Rattle.pddl_meaning.proofs.Folds.{fold-Lit, fold-Read, fold-Op}
 
 -- the second has each value that the first has
 abbrev pub Bounded : Option Decimal → Option Decimal → Type 0
@@ -30,7 +32,7 @@ quotient_bounded : (a : Decimal) (inverse : Option Decimal) → Bounded (option_
 quotient_bounded a None d h = cc
 quotient_bounded a (Some e) d h = fitting _ (trimmed (product_of a e)) d h
 
-operation_bounded : (o : Op) (a b : Decimal) → Bounded (in_bounds o a b) (exactly o a b)
+pub operation_bounded : (o : Op) (a b : Decimal) → Bounded (in_bounds o a b) (exactly o a b)
 unfolding in_bounds exactly
 operation_bounded op.Add a b d h = fitting _ (trimmed (sum_of a b)) d h
 operation_bounded op.Sub a b d h = fitting _ (trimmed (difference_of a b)) d h
@@ -77,7 +79,7 @@ module _ (params : List Typed) (args : List (List ℕ)) (w : WorldValue) where
   further_bounded how.Down s x t u f g = combined_bounded op.Sub s x t u f g
   further_bounded how.Scale s x t u f g = combined_bounded op.Add s x t u f g
 
-  sum_bounded : (s t : Option Decimal) (cs : List Change) → Bounded s t
+  sum_bounded : (s t : Option Decimal) (cs : List NumericEffect) → Bounded s t
       → Bounded (fold (λ sum d. further_part in_bounds d.how sum (value_by in_bounds params args w d.by)) s cs) (fold (λ sum d. further_part exactly d.how sum (value_by exactly params args w d.by)) t cs)
   sum_bounded s t [] f = f
   sum_bounded s t (c ∷ cs) f =
@@ -90,7 +92,7 @@ module _ (params : List Typed) (args : List (List ℕ)) (w : WorldValue) where
   after_bounded how.Down old x s u t f g = combined_bounded op.Add old s old t (λ d h. h) g
   after_bounded how.Scale old x s u t f g = combined_bounded op.Mul old x old u (λ d h. h) f
 
-  changed_bounded : (fluent : List ℕ) (cs : List Change) → Bounded (changed_value in_bounds params args w fluent cs) (changed_value exactly params args w fluent cs)
+  changed_bounded : (fluent : List ℕ) (cs : List NumericEffect) → Bounded (changed_value in_bounds params args w fluent cs) (changed_value exactly params args w fluent cs)
   changed_bounded fluent [] = λ d h. h
   changed_bounded fluent (c ∷ cs) =
       after_bounded c.how (finite.get w.values fluent) (value_by in_bounds params args w c.by) (joined_sum in_bounds params args w c cs) (value_by exactly params args w c.by) (joined_sum exactly params args w c cs)
@@ -98,8 +100,8 @@ module _ (params : List Typed) (args : List (List ℕ)) (w : WorldValue) where
       (sum_bounded (first_part in_bounds c.how (value_by in_bounds params args w c.by)) (first_part exactly c.how (value_by exactly params args w c.by)) cs
       (first_bounded c.how (value_by in_bounds params args w c.by) (value_by exactly params args w c.by) (value_bounded c.by)))
 
-  pub next_bounded : (changes : List Change) (fluent : List ℕ) → Bounded (next_value in_bounds params args w changes fluent) (next_value exactly params args w changes fluent)
-  next_bounded changes fluent = changed_bounded fluent (changes_on fluent changes)
+  pub next_bounded : (changes : List NumericEffect) (fluent : List ℕ) → Bounded (next_value in_bounds params args w changes fluent) (next_value exactly params args w changes fluent)
+  next_bounded changes fluent = changed_bounded fluent (effects_on fluent changes)
 
 -- ---- tests of values
 
@@ -119,9 +121,9 @@ all_of_all p q each [] h = refl
 all_of_all p q each (x ∷ xs) h = let parts = both_true (p x) (list_all p xs) h in true_both (q x) (list_all q xs) (each x parts.0) (all_of_all p q each xs parts.1)
 
 -- where each changed fluent has a value within the range afterwards, each has one
-pub changes_valued : (params : List Typed) (args : List (List ℕ)) (w : WorldValue) (changes : List Change)
-    → are_changes_valued in_bounds params args w changes ≡ true → are_changes_valued exactly params args w changes ≡ true
-unfolding are_changes_valued
-changes_valued params args w changes h =
+pub effects_valued : (params : List Typed) (args : List (List ℕ)) (w : WorldValue) (changes : List NumericEffect)
+    → are_effects_valued in_bounds params args w changes ≡ true → are_effects_valued exactly params args w changes ≡ true
+unfolding are_effects_valued
+effects_valued params args w changes h =
     all_of_all (λ c. is_some (next_value in_bounds params args w changes c.fluent)) (λ c. is_some (next_value exactly params args w changes c.fluent))
     (λ c. bounded_some (next_value in_bounds params args w changes c.fluent) (next_value exactly params args w changes c.fluent) (next_bounded params args w changes c.fluent)) changes h

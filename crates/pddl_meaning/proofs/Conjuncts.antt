@@ -11,7 +11,7 @@ use Rattle.pddl_terms.specs.declared.expressions.Expr.{Expr}
 use Rattle.pddl_terms.specs.declared.conditions.Rel.{Rel}
 use Rattle.pddl_terms.specs.declared.conditions.Cond.{Cond}
 use Rattle.pddl_terms.specs.declared.conditions.Cond.TheVariants as condition
-use Rattle.pddl_meaning.specs.Texts.{argument_text, ground_text}
+use Rattle.pddl_terms.specs.Texts.{argument_text, ground_text}
 use Rattle.pddl_meaning.specs.Worlds.{WorldValue}
 use Rattle.pddl_meaning.specs.Truth.{at_polarity, literals_layer, literals_true}
 use Rattle.pddl_meaning.proofs.Folds.{fold-And, fold-Or, fold-Not, fold-Imply, fold-Fact, fold-Same, fold-Cmp}

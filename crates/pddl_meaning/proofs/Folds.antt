@@ -1,11 +1,11 @@
--- The equations of folds over expressions and conditions, one for each variant, and induction over expressions.
-use Rattle.std.proofs.Common.{◌≡◌, ℕ, Bool, ◌&&◌, ◌||◌, List, [], ◌∷◌, map, refl, sym, ap, ◌∙◌, subst}
+-- The equations of folds over expressions and conditions, one for each variant.
+use Rattle.std.proofs.Common.{◌≡◌, ℕ, Bool, ◌&&◌, ◌||◌, List, [], ◌∷◌, map, refl, sym, ap, ◌∙◌}
 use Rattle.std.specs.List.{list_all, list_any}
 use Rattle.num_ends.specs.Decimal.{Decimal}
 use Rattle.pddl_terms.specs.declared.names.Arg.{Arg}
 use Rattle.pddl_terms.specs.declared.names.Atom.{Atom}
 use Rattle.pddl_terms.specs.declared.expressions.Op.{Op}
-use Rattle.pddl_terms.specs.declared.expressions.Expr.{Expr, Expr-F, fold-Expr, fold-roll-Expr, ind-Expr, map-Expr, roll-Expr}
+use Rattle.pddl_terms.specs.declared.expressions.Expr.{Expr, Expr-F, fold-Expr, fold-roll-Expr}
 use Rattle.pddl_terms.specs.declared.expressions.Expr.TheVariants as e
 use Rattle.pddl_terms.specs.declared.conditions.Rel.{Rel}
 use Rattle.pddl_terms.specs.declared.conditions.Cond.{Cond, Cond-F, fold-Cond, fold-roll-Cond}
@@ -51,15 +51,3 @@ module _ {A : Type 0} (layer : Cond-F A → A) where
 
   pub fold-Cmp : (r : Rel) (x y : Expr) → fold-Cond A layer (c.Cmp r x y) ≡ layer (Cond-F.Cmp r x y)
   fold-Cmp r x y = ap (fold-Cond A layer) (sym (c.rolls-Cmp r x y)) ∙ fold-roll-Cond A layer (Cond-F.Cmp r x y)
-
-induct_layer : (P : Expr → Type 0) → ((d : Decimal) (at : ℕ) → P (e.Lit d at)) → ((a : Atom) → P (e.Read a)) → ((at : ℕ) (o : Op) (x y : Expr) → P x → P y → P (e.Op at o x y))
-    → (z : Expr-F ((x : Expr) × P x)) → P (roll-Expr (map-Expr _ _ (λ p. p.0) z))
-induct_layer P lit read operation (Expr-F.Lit d at) = subst P (sym (e.rolls-Lit d at)) (lit d at)
-induct_layer P lit read operation (Expr-F.Read a) = subst P (sym (e.rolls-Read a)) (read a)
-induct_layer P lit read operation (Expr-F.Op at o x y) = subst P (sym (e.rolls-Op at o x.0 y.0)) (operation at o x.0 y.0 x.1 y.1)
-
--- induction over expressions, one case for each variant
-pub induct_expression : (P : Expr → Type 0) → ((d : Decimal) (at : ℕ) → P (e.Lit d at)) → ((a : Atom) → P (e.Read a)) → ((at : ℕ) (o : Op) (x y : Expr) → P x → P y → P (e.Op at o x y))
-    → (x : Expr) → P x
-induct_expression P lit read operation =
-    ind-Expr P (λ x y is. subst (λ (z : Expr-F Expr). P (roll-Expr z)) is (induct_layer P lit read operation y))

@@ -10,7 +10,7 @@ use Rattle.num_ends.specs.Arithmetic.{IsInverse}
 use Rattle.num_ends.proofs.Inverses as inverses
 use Rattle.num_ends.proofs.OrderSteps.{ten_positive}
 use Rattle.num_ends.proofs.Zeros.{abs_negative, negative_zeros}
-use Rattle.pddl_meaning.specs.Values.{inverse_of, with_sign}
+use Rattle.pddl_meaning.specs.Values.{inverse_of, signed}
 
 -- ---- zeros behind the point
 
@@ -49,8 +49,8 @@ unsigned_zeros k n e =
     x.1 ∙ ap₂ (λ (a b : ℕ). record { n = pos a; p = b }) same places
 
 -- a trimmed decimal, brought to 9 places and trimmed again
-again_trimmed : (s : Bool) (n k : ℕ) (e : Decimal) → k ≤ 9 → e ≡ record { n = with_sign s n; p = k } → trimmed e ≡ e
-    → trimmed (record { n = with_sign s (n * 10 ^ (9 - k)); p = 9 }) ≡ e
+again_trimmed : (s : Bool) (n k : ℕ) (e : Decimal) → k ≤ 9 → e ≡ record { n = signed s n; p = k } → trimmed e ≡ e
+    → trimmed (record { n = signed s (n * 10 ^ (9 - k)); p = 9 }) ≡ e
 unfolding trimmed
 again_trimmed false n k e few is t =
     let nine : 9 ≡ 9 - k + k = omega arith in
@@ -72,7 +72,7 @@ sizes_positive : (a b : ℕ) → 0 < suc a * suc b
 sizes_positive a b = omega (arith, mul-suc (suc a) b)
 
 -- an inverse has the sign of its decimal
-same_sign : (y z : ℤ) (t : ℕ) → 0 < t → y *ℤ z ≡ pos t → z ≡ with_sign (int_lt y (pos 0)) (unsigned_abs z)
+same_sign : (y z : ℤ) (t : ℕ) → 0 < t → y *ℤ z ≡ pos t → z ≡ signed (int_lt y (pos 0)) (unsigned_abs z)
 same_sign (pos a) (pos b) t h e = rw (le-ltb a 0 zero-le) refl
 same_sign (pos zero) (negsuc b) t h e =
     let none : 0 * suc b ≡ t = sym (unsigned_abs-mul (pos 0) (negsuc b)) ∙ ap unsigned_abs e in
@@ -119,7 +119,7 @@ inverse_refused d none =
 
 -- ---- what is computed
 
-trimmed_digits : (s : Bool) (q n k : ℕ) → without_zeros 9 (pos q) ≡ record { n = pos n; p = k } → trimmed (record { n = with_sign s q; p = 9 }) ≡ record { n = with_sign s n; p = k }
+trimmed_digits : (s : Bool) (q n k : ℕ) → without_zeros 9 (pos q) ≡ record { n = pos n; p = k } → trimmed (record { n = signed s q; p = 9 }) ≡ record { n = signed s n; p = k }
 unfolding trimmed
 trimmed_digits false q n k e = e
 trimmed_digits true q n k e = negative_zeros 9 q n k e
@@ -132,9 +132,9 @@ inverse_sound d e h =
       | inr z ↦ elim (cases_eq (10 ^ (d.p + 9) % unsigned_abs d.n) 0) [
         | inl r ↦
             let x = digits_left 9 (10 ^ (d.p + 9) / unsigned_abs d.n) in
-            let found : Some (trimmed (record { n = with_sign (int_lt d.n (pos 0)) (10 ^ (d.p + 9) / unsigned_abs d.n); p = 9 })) ≡ Some e =
+            let found : Some (trimmed (record { n = signed (int_lt d.n (pos 0)) (10 ^ (d.p + 9) / unsigned_abs d.n); p = 9 })) ≡ Some e =
             rw (ne_eqb (unsigned_abs d.n) 0 z, eq-eqb (10 ^ (d.p + 9) % unsigned_abs d.n) 0 r) at h in
-            let is : e ≡ record { n = with_sign (int_lt d.n (pos 0)) x.0.0; p = x.0.1 } =
+            let is : e ≡ record { n = signed (int_lt d.n (pos 0)) x.0.0; p = x.0.1 } =
             sym (same_Some _ _ found) ∙ trimmed_digits (int_lt d.n (pos 0)) (10 ^ (d.p + 9) / unsigned_abs d.n) x.0.0 x.0.1 x.1 in
             inverses.inverse_given d (unsigned_abs d.n) (10 ^ (d.p + 9)) refl refl r x.0.0 x.0.1 x.1 x.2 e is
         | inr r ↦ let bad : None ≡ Some e = rw (ne_eqb (unsigned_abs d.n) 0 z, ne_eqb (10 ^ (d.p + 9) % unsigned_abs d.n) 0 r) at h in cc
@@ -145,6 +145,6 @@ inverse_sound d e h =
 pub inverse_complete : (d : Decimal) → inverse_of d ≡ None → (e : Decimal) → IsInverse d e → e.p ≤ 9 → ⊥
 inverse_complete d h e i few =
     let positive = inverses.inverse_not_zero d e i in
-    let found : Some (trimmed (record { n = with_sign (int_lt d.n (pos 0)) (10 ^ (d.p + 9) / unsigned_abs d.n); p = 9 })) ≡ None =
+    let found : Some (trimmed (record { n = signed (int_lt d.n (pos 0)) (10 ^ (d.p + 9) / unsigned_abs d.n); p = 9 })) ≡ None =
     rw (ne_eqb (unsigned_abs d.n) 0 (not_zero (unsigned_abs d.n) positive), eq-eqb (10 ^ (d.p + 9) % unsigned_abs d.n) 0 (inverses.inverse_divides d e i few positive)) at h in
     cc

@@ -14,7 +14,7 @@ use Rattle.pddl_terms.specs.declared.expressions.Expr.TheVariants as e
 use Rattle.pddl_terms.specs.declared.conditions.Rel.{Rel}
 use Rattle.pddl_terms.specs.declared.conditions.Cond.{Cond}
 use Rattle.pddl_terms.specs.declared.conditions.Cond.TheVariants as c
-use Rattle.pddl_meaning.specs.Texts.{argument_text, ground_text}
+use Rattle.pddl_terms.specs.Texts.{argument_text, ground_text}
 use Rattle.pddl_meaning.specs.Worlds.{WorldValue}
 use Rattle.pddl_meaning.specs.Values.{combined, reads_defined, reads_layer, value_by, value_layer, value_of}
 use Rattle.pddl_meaning.specs.Truth.{both, comparisons_layer, each_comparison, is_true, stands, truth_layer}

@@ -2,7 +2,7 @@ pub mod Folds
 pub mod Bounds
 pub mod Layers
 pub mod Conjuncts
-pub mod Induction
+pub mod Comparisons
 pub mod SameGoals
 pub mod SameSteps
 pub mod Keys
@@ -12,7 +12,7 @@ pub mod Spelled
 pub mod Ranges
 pub mod Truths
 pub mod Inverses
-pub mod Amounts
+pub mod Evaluations
 pub mod Actions
 pub mod Written
 pub mod Places

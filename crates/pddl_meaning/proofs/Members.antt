@@ -12,10 +12,10 @@ use Rattle.std.proofs.lemmas.Slice.Eq.{bytes_eq-Decides}
 use Rattle.num_ends.specs.Decimal.{Decimal}
 use Rattle.pddl_terms.specs.declared.names.Typed.{Typed}
 use Rattle.pddl_terms.specs.declared.actions.Effect.{Effect}
-use Rattle.pddl_types.specs.Checks.{is_among}
+use Rattle.name_table.specs.Tables.{is_text_among as is_among}
 use Rattle.pddl_meaning.specs.Worlds.{Facts, Values, WorldValue, text_cmp}
 use Rattle.pddl_meaning.specs.Values.{exactly}
-use Rattle.pddl_meaning.specs.Effects.{Change, added_by, are_changes_valued, changed_value, changes_on, deleted_by, next_facts, next_value, next_values, with_value}
+use Rattle.pddl_meaning.specs.Effects.{NumericEffect, added_by, are_effects_valued, changed_value, effects_on, deleted_by, next_facts, next_value, next_values, with_value}
 
 pub texts_total : IsTotalOrder text_cmp
 texts_total = nat_list_cmp_total
@@ -64,7 +64,7 @@ pub inserted : (values : Values) (x : List ℕ) (d : Decimal) (t : List ℕ) →
 inserted values x d t = finite.get-insert texts_total values x d t ∙ ap (λ (b : Bool). cond b (Some d) (finite.get values t)) (sym (texts_ties t x))
 
 -- whether one of the changes is on a fluent
-abbrev pub is_changed : List ℕ → List Change → Bool
+abbrev pub is_changed : List ℕ → List NumericEffect → Bool
 is_changed t changes = list_any (λ c. bytes_eq t c.fluent) changes
 
 one_of : (f : List ℕ → Option Decimal) (t x : List ℕ) (d : Decimal) (old : Option Decimal) (test : Bool) → bytes_eq t x ≡ test → f x ≡ Some d → (rest : Bool)
@@ -75,7 +75,7 @@ one_of f t x d old false same new rest = refl
 
 module _ (f : List ℕ → Option Decimal) where
   -- each changed fluent has its new value, and each other one its old
-  pub value_after_all : (changes : List Change) → list_all (λ c. is_some (f c.fluent)) changes ≡ true → (values : Values) (t : List ℕ)
+  pub value_after_all : (changes : List NumericEffect) → list_all (λ c. is_some (f c.fluent)) changes ≡ true → (values : Values) (t : List ℕ)
       → finite.get (fold (λ vs c. with_value vs c.fluent (f c.fluent)) values changes) t ≡ cond (is_changed t changes) (f t) (finite.get values t)
   value_after_all [] all values t = refl
   value_after_all (c ∷ cs) all values t = cases (f c.fluent) refl all (value_after_all cs)
@@ -90,22 +90,22 @@ module _ (f : List ℕ → Option Decimal) where
           ∙ ap (λ (x : Option Decimal). cond (is_changed t cs) (f t) x) (inserted values c.fluent d t)
           ∙ one_of f t c.fluent d (finite.get values t) (bytes_eq t c.fluent) refl new (is_changed t cs)
 
-none_on : (t : List ℕ) (changes : List Change) → is_changed t changes ≡ false → changes_on t changes ≡ []
+none_on : (t : List ℕ) (changes : List NumericEffect) → is_changed t changes ≡ false → effects_on t changes ≡ []
 none_on t [] none = refl
 none_on t (c ∷ cs) none = cases (bytes_eq t c.fluent) none (none_on t cs)
   where
-    cases : (test : Bool) → (test || is_changed t cs) ≡ false → (is_changed t cs ≡ false → changes_on t cs ≡ []) → cond test (c ∷ changes_on t cs) (changes_on t cs) ≡ []
+    cases : (test : Bool) → (test || is_changed t cs) ≡ false → (is_changed t cs ≡ false → effects_on t cs ≡ []) → cond test (c ∷ effects_on t cs) (effects_on t cs) ≡ []
     cases true h more = cc
     cases false h more = more h
 
-unchanged : (params : List Typed) (args : List (List ℕ)) (w : WorldValue) (changes : List Change) (t : List ℕ) (test : Bool) → is_changed t changes ≡ test
+unchanged : (params : List Typed) (args : List (List ℕ)) (w : WorldValue) (changes : List NumericEffect) (t : List ℕ) (test : Bool) → is_changed t changes ≡ test
     → cond test (next_value exactly params args w changes t) (finite.get w.values t) ≡ next_value exactly params args w changes t
 unchanged params args w changes t true is = refl
-unchanged params args w changes t false is = sym (ap (λ (cs : List Change). changed_value exactly params args w t cs) (none_on t changes is))
+unchanged params args w changes t false is = sym (ap (λ (cs : List NumericEffect). changed_value exactly params args w t cs) (none_on t changes is))
 
 -- where each changed fluent has a value afterwards, the next values are the values after all changes
-pub next_value_after : (params : List Typed) (args : List (List ℕ)) (w : WorldValue) (changes : List Change) → are_changes_valued exactly params args w changes ≡ true → (t : List ℕ)
+pub next_value_after : (params : List Typed) (args : List (List ℕ)) (w : WorldValue) (changes : List NumericEffect) → are_effects_valued exactly params args w changes ≡ true → (t : List ℕ)
     → finite.get (next_values params args w changes) t ≡ next_value exactly params args w changes t
-unfolding next_values are_changes_valued
+unfolding next_values are_effects_valued
 next_value_after params args w changes valued t =
     value_after_all (next_value exactly params args w changes) changes valued w.values t ∙ unchanged params args w changes t (is_changed t changes) refl

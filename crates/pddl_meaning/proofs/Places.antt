@@ -6,7 +6,7 @@ use Rattle.std.proofs.lemmas.Bool.Decides.{nat_tests}
 use Rattle.pddl_terms.specs.declared.names.Name.{Name}
 use Rattle.pddl_terms.specs.declared.names.Typed.{Typed}
 use Rattle.pddl_types.specs.declared.pairs.Pair.{Pair}
-use Rattle.pddl_types.specs.Numberings.{place_in}
+use Rattle.name_table.specs.Tables.{place_in}
 use Rattle.pddl_meaning.specs.Steps.{all_fit}
 
 module _ {X : Type 0} (name_of : X → Name) where

@@ -6,7 +6,8 @@ use Rattle.num_ends.specs.Decimal.{Decimal, InRange, IsDec, common_places, numbe
 use Rattle.num_ends.specs.Arithmetic.{OperandsFit, SumFits, DifferenceFits}
 use Rattle.pddl_terms.specs.declared.expressions.Op.TheVariants as op
 use Rattle.std.specs.Option.{option_and_then}
-use Rattle.pddl_meaning.specs.Values.{in_bounds, in_range, inverse_of, operands_fit, ranged_product, where_fits}
+use Rattle.num_ends.specs.Range.{in_range, operands_fit, where_fits}
+use Rattle.pddl_meaning.specs.Values.{in_bounds, inverse_of, ranged_product}
 
 both_true : (a b : Bool) → a && b ≡ true → (a ≡ true) × (b ≡ true)
 both_true true b h = (refl, h)

@@ -11,10 +11,10 @@ use Rattle.pddl_meaning.specs.Worlds.{WorldValue}
 use Rattle.pddl_meaning.specs.Values.{combined, exactly, reads_defined, value_of}
 use Rattle.pddl_meaning.specs.Truth.{is_defined, is_in_bounds, is_true, is_valued, ranged_goal, ranged_truth}
 use Rattle.pddl_meaning.specs.Laws.{GoalAgrees}
-use Rattle.pddl_meaning.proofs.Folds.{induct_expression}
+use Rattle.pddl_terms.proofs.Induction.{induct_expression}
 use Rattle.pddl_meaning.proofs.Layers.{reads_of_Lit, reads_of_Read, reads_of_Op, value_of_Read, value_of_Op}
 use Rattle.pddl_meaning.proofs.Bounds.{both_true, true_both}
-use Rattle.pddl_meaning.proofs.Induction.{bounds_valued, each_more}
+use Rattle.pddl_meaning.proofs.Comparisons.{bounds_valued, each_more}
 
 operands_some : (o : Op) (x y : Option Decimal) → is_some (combined exactly o x y) ≡ true → (is_some x ≡ true) × (is_some y ≡ true)
 operands_some o None y h = cc

@@ -8,12 +8,12 @@ use Rattle.pddl_meaning.specs.declared.answers.Stepped.TheVariants as answer
 use Rattle.pddl_meaning.specs.Worlds.{WorldValue}
 use Rattle.pddl_meaning.specs.Values.{exactly, in_bounds}
 use Rattle.pddl_meaning.specs.Truth.{is_in_bounds, is_true, is_valued, literals_true}
-use Rattle.pddl_meaning.specs.Effects.{are_changes_valued, changes_by, next_value, next_world}
+use Rattle.pddl_meaning.specs.Effects.{are_effects_valued, numeric_effects, next_value, next_world}
 use Rattle.pddl_meaning.specs.Steps.{IsStep, all_fit, is_ready, next_fact, ranged_action, ranged_effects, ranged_schema, ranged_step, schema_named}
 use Rattle.pddl_meaning.specs.Laws.{Agrees}
-use Rattle.pddl_meaning.proofs.Bounds.{both_true, true_both, changes_valued}
+use Rattle.pddl_meaning.proofs.Bounds.{both_true, true_both, effects_valued}
 use Rattle.pddl_meaning.proofs.Members.{next_fact_after, next_value_after, same_facts, same_values}
-use Rattle.pddl_meaning.proofs.Induction.{bounds_valued, literals_of_truth}
+use Rattle.pddl_meaning.proofs.Comparisons.{bounds_valued, literals_of_truth}
 
 module _ (p : Pair) (w : WorldValue) (name : List ℕ) (args : List (List ℕ)) where
   abbrev LeadsNowhere : Type 0
@@ -31,23 +31,23 @@ module _ (p : Pair) (w : WorldValue) (name : List ℕ) (args : List (List ℕ)) 
     step_true next step = (both_true (is_valued step.action.params args w step.action.pre) (is_true step.action.params args w step.action.pre) step.applies).1
 
     -- all of an action's worlds are the one that its effects give
-    only : are_changes_valued exactly s.params args w (changes_by s.params args s.effects) ≡ true → (other : WorldValue) → IsStep p w name args other → other ≡ next_world s.params args w s.effects
+    only : are_effects_valued exactly s.params args w (numeric_effects s.params args s.effects) ≡ true → (other : WorldValue) → IsStep p w name args other → other ≡ next_world s.params args w s.effects
     only valued other step =
-        let changes = changes_by s.params args s.effects in
+        let changes = numeric_effects s.params args s.effects in
         let facts = same_facts other.facts (next_world s.params args w s.effects).facts
         (λ f. step.facts f ∙ ap (λ (t : Schema). next_fact t args w f) (this other step) ∙ sym (next_fact_after s.params args w.facts s.effects f)) in
         let values = same_values other.values (next_world s.params args w s.effects).values
-        (λ x. step.values x ∙ ap (λ (t : Schema). next_value exactly t.params args w (changes_by t.params args t.effects) x) (this other step)
-        ∙ sym (next_value_after s.params args w (changes_by s.params args s.effects) valued x)) in
+        (λ x. step.values x ∙ ap (λ (t : Schema). next_value exactly t.params args w (numeric_effects t.params args t.effects) x) (this other step)
+        ∙ sym (next_value_after s.params args w (numeric_effects s.params args s.effects) valued x)) in
         λ i. record { facts = facts i; values = values i }
 
     module _ (legal : all_fit p s.params args ≡ true) where
-      effects_agree : (test : Bool) → are_changes_valued in_bounds s.params args w (changes_by s.params args s.effects) ≡ test → is_ready s args w ≡ true
+      effects_agree : (test : Bool) → are_effects_valued in_bounds s.params args w (numeric_effects s.params args s.effects) ≡ test → is_ready s args w ≡ true
           → is_in_bounds s.params args w s.pre ≡ true → is_true s.params args w s.pre ≡ true
           → Agrees p w name args (if test then answer.Next (next_world s.params args w s.effects) else answer.Over)
       effects_agree false over ready bounded holds = tt
       effects_agree true valued ready bounded holds =
-          let values = changes_valued s.params args w (changes_by s.params args s.effects) valued in (
+          let values = effects_valued s.params args w (numeric_effects s.params args s.effects) valued in (
             record {
               action = s;
               named = named;
@@ -56,7 +56,7 @@ module _ (p : Pair) (w : WorldValue) (name : List ℕ) (args : List (List ℕ)) 
               applies = true_both (is_valued s.params args w s.pre) (is_true s.params args w s.pre) (bounds_valued s.params args w s.pre bounded) holds;
               valued = values;
               facts = next_fact_after s.params args w.facts s.effects;
-              values = next_value_after s.params args w (changes_by s.params args s.effects) values;
+              values = next_value_after s.params args w (numeric_effects s.params args s.effects) values;
             },
             only values,
           )
@@ -64,7 +64,7 @@ module _ (p : Pair) (w : WorldValue) (name : List ℕ) (args : List (List ℕ)) 
       truth_agrees : (test : Bool) → is_true s.params args w s.pre ≡ test → is_ready s args w ≡ true → is_in_bounds s.params args w s.pre ≡ true
           → Agrees p w name args (if not test then answer.Blocked else ranged_effects s args w)
       truth_agrees false fails ready bounded = refused (λ t. is_true t.params args w t.pre) fails step_true
-      truth_agrees true holds ready bounded = effects_agree (are_changes_valued in_bounds s.params args w (changes_by s.params args s.effects)) refl ready bounded holds
+      truth_agrees true holds ready bounded = effects_agree (are_effects_valued in_bounds s.params args w (numeric_effects s.params args s.effects)) refl ready bounded holds
 
       range_agrees : (test : Bool) → is_in_bounds s.params args w s.pre ≡ test → is_ready s args w ≡ true
           → Agrees p w name args (if not test then answer.Over else (if not (is_true s.params args w s.pre) then answer.Blocked else ranged_effects s args w))

@@ -5,7 +5,7 @@ use Rattle.std.specs.List.{join_with_byte}
 use Rattle.pddl_terms.specs.declared.names.Arg.{Arg}
 use Rattle.pddl_terms.specs.declared.names.Atom.{Atom}
 use Rattle.pddl_terms.specs.declared.names.Typed.{Typed}
-use Rattle.pddl_meaning.specs.Texts.{argument_text, ground_text, variable_text}
+use Rattle.pddl_terms.specs.Texts.{argument_text, ground_text, variable_text}
 
 -- a parameter of another name is passed over
 step_by_suc : (params : List Typed) (args : List (List ℕ)) (v : List ℕ) (n : ℕ) (d : Typed) → n < length params → n < length args

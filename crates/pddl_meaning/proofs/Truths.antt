@@ -13,11 +13,12 @@ use Rattle.pddl_terms.specs.declared.conditions.Cond.{Cond}
 use Rattle.pddl_terms.specs.declared.conditions.Cond.TheVariants as c
 use Rattle.pddl_meaning.specs.declared.answers.Holds.{Holds}
 use Rattle.pddl_meaning.specs.declared.answers.Holds.TheVariants.{Yes, No, Over}
-use Rattle.pddl_meaning.specs.Texts.{argument_text, ground_text}
+use Rattle.pddl_terms.specs.Texts.{argument_text, ground_text}
 use Rattle.pddl_meaning.specs.Worlds.{WorldValue}
-use Rattle.pddl_meaning.specs.Values.{operands_fit, ranged_value, value_of}
+use Rattle.num_ends.specs.Range.{operands_fit}
+use Rattle.pddl_meaning.specs.Values.{ranged_value, value_of}
 use Rattle.pddl_meaning.specs.Truth.{both, is_in_bounds, is_true, ranged_truth, stands}
-use Rattle.pddl_meaning.specs.Connectives.{all_of, any_of, both_of, comparison, either_of, not_of, truth_of}
+use Rattle.pddl_meaning.specs.internal.Connectives.{truth_of_all, truth_of_any, both_of, comparison, either_of, not_of, truth_of}
 use Rattle.pddl_meaning.proofs.Bounds.{Bounded, value_bounded}
 use Rattle.pddl_meaning.proofs.Layers.{true_And, true_Or, true_Not, true_Imply, true_Fact, true_Same, true_Cmp, each_And, each_Or, each_Not, each_Imply, each_Fact, each_Same, each_Cmp}
 
@@ -64,16 +65,16 @@ module _ (fits truth : Cond → Bool) where
   abbrev of : Cond → Holds
   of b = answer (fits b) (truth b)
 
-  all_answers : (f t : Bool) (cs : List Cond) → all_of of (answer f t) cs ≡ answer (f && list_all fits cs) (t && list_all truth cs)
+  all_answers : (f t : Bool) (cs : List Cond) → truth_of_all of (answer f t) cs ≡ answer (f && list_all fits cs) (t && list_all truth cs)
   all_answers f t [] = ap₂ answer (and_true f) (and_true t)
   all_answers f t (b ∷ cs) =
-      ap (λ (h : Holds). all_of of h cs) (both_answer f t (fits b) (truth b)) ∙ all_answers (f && fits b) (t && truth b) cs
+      ap (λ (h : Holds). truth_of_all of h cs) (both_answer f t (fits b) (truth b)) ∙ all_answers (f && fits b) (t && truth b) cs
       ∙ ap₂ answer (and_assoc f (fits b) (list_all fits cs)) (and_assoc t (truth b) (list_all truth cs))
 
-  any_answers : (f t : Bool) (cs : List Cond) → any_of of (answer f t) cs ≡ answer (f && list_all fits cs) (t || list_any truth cs)
+  any_answers : (f t : Bool) (cs : List Cond) → truth_of_any of (answer f t) cs ≡ answer (f && list_all fits cs) (t || list_any truth cs)
   any_answers f t [] = ap₂ answer (and_true f) (or_false t)
   any_answers f t (b ∷ cs) =
-      ap (λ (h : Holds). any_of of h cs) (either_answer f t (fits b) (truth b)) ∙ any_answers (f && fits b) (t || truth b) cs
+      ap (λ (h : Holds). truth_of_any of h cs) (either_answer f t (fits b) (truth b)) ∙ any_answers (f && fits b) (t || truth b) cs
       ∙ ap₂ answer (and_assoc f (fits b) (list_all fits cs)) (or_assoc t (truth b) (list_any truth cs))
 
 -- a test of two values that are there within the range
@@ -86,11 +87,11 @@ module _ (params : List Typed) (args : List (List ℕ)) (w : WorldValue) where
   abbrev fitting : Expr → Expr → Bool
   fitting e f = both operands_fit (ranged_value params args w e) (ranged_value params args w f)
 
-  pub ranged_And : (cs : List Cond) → all_of (ranged_truth params args w) Yes cs ≡ ranged_truth params args w (c.And cs)
+  pub ranged_And : (cs : List Cond) → truth_of_all (ranged_truth params args w) Yes cs ≡ ranged_truth params args w (c.And cs)
   ranged_And cs =
       all_answers (is_in_bounds params args w) (is_true params args w) true true cs ∙ sym (ap₂ answer (each_And fitting cs) (true_And params args w cs))
 
-  pub ranged_Or : (cs : List Cond) → any_of (ranged_truth params args w) No cs ≡ ranged_truth params args w (c.Or cs)
+  pub ranged_Or : (cs : List Cond) → truth_of_any (ranged_truth params args w) No cs ≡ ranged_truth params args w (c.Or cs)
   ranged_Or cs =
       any_answers (is_in_bounds params args w) (is_true params args w) true false cs ∙ sym (ap₂ answer (each_Or fitting cs) (true_Or params args w cs))
 

@@ -1,9 +1,7 @@
-pub mod Texts
 pub mod Worlds
 pub mod Values
 pub mod Truth
 pub mod Effects
 pub mod Steps
 pub mod Laws
-pub mod Connectives
-pub mod Computed
+pub mod internal

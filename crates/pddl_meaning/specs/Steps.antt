@@ -7,16 +7,18 @@ use Rattle.std.specs.List.{list_any}
 use Rattle.pddl_terms.specs.declared.names.Typed.{Typed}
 use Rattle.pddl_terms.specs.declared.actions.Schema.{Schema}
 use Rattle.pddl_types.specs.declared.pairs.Pair.{Pair}
-use Rattle.pddl_types.specs.Types.{first_typed, is_within}
-use Rattle.pddl_types.specs.Checks.{is_among, objects_of}
+use Rattle.name_table.specs.TypedLists.{first_typed}
+use Rattle.type_order.specs.Types.{is_within}
+use Rattle.name_table.specs.Tables.{is_text_among as is_among}
+use Rattle.pddl_types.specs.Pairs.{objects_of}
 use Rattle.pddl_meaning.specs.declared.answers.Stepped.{Stepped}
 use Rattle.pddl_meaning.specs.declared.answers.Stepped.TheVariants as answer
 use Rattle.pddl_meaning.specs.declared.answers.Advanced.{Advanced}
 use Rattle.pddl_meaning.specs.declared.answers.Advanced.TheVariants as advance
-use Rattle.pddl_meaning.specs.Worlds.{WorldValue, first_world}
+use Rattle.pddl_meaning.specs.Worlds.{WorldValue, initial_world}
 use Rattle.pddl_meaning.specs.Values.{exactly, in_bounds}
 use Rattle.pddl_meaning.specs.Truth.{holds, is_defined, is_in_bounds, is_true, literals_true, goal_holds}
-use Rattle.pddl_meaning.specs.Effects.{added_by, deleted_by, changes_by, are_compatible, are_changes_defined, are_changes_valued, next_value, next_world}
+use Rattle.pddl_meaning.specs.Effects.{added_by, deleted_by, numeric_effects, are_compatible, are_effects_defined, are_effects_valued, next_value, next_world}
 
 -- ---- legal steps
 
@@ -39,8 +41,8 @@ all_fit p (t ∷ params) (a ∷ args) = fits p t a && all_fit p params args
 unfoldable pub is_ready : Schema → List (List ℕ) → WorldValue → Bool
 is_ready s args w =
     is_defined s.params args w s.pre
-    && are_changes_defined s.params args w (changes_by s.params args s.effects)
-    && are_compatible (changes_by s.params args s.effects)
+    && are_effects_defined s.params args w (numeric_effects s.params args s.effects)
+    && are_compatible (numeric_effects s.params args s.effects)
 
 -- ---- the step without bounds
 
@@ -57,9 +59,9 @@ pub record IsStep (p : Pair) (w : WorldValue) (name : List ℕ) (args : List (Li
   pub legal : IsTrue (all_fit p action.params args)
   pub ready : IsTrue (is_ready action args w)
   pub applies : IsTrue (holds action.params args w action.pre)
-  pub valued : IsTrue (are_changes_valued exactly action.params args w (changes_by action.params args action.effects))
+  pub valued : IsTrue (are_effects_valued exactly action.params args w (numeric_effects action.params args action.effects))
   pub facts : (f : List ℕ) → set.contains next.facts f ≡ next_fact action args w f
-  pub values : (x : List ℕ) → finite.get next.values x ≡ next_value exactly action.params args w (changes_by action.params args action.effects) x
+  pub values : (x : List ℕ) → finite.get next.values x ≡ next_value exactly action.params args w (numeric_effects action.params args action.effects) x
 
 -- the steps, each a name with its arguments, lead one after another from the one world to the other
 abbrev pub StepsLead : Pair → WorldValue → List (List ℕ × List (List ℕ)) → WorldValue → Type 0
@@ -72,14 +74,14 @@ IsPlanFrom p w steps = (last : WorldValue) × StepsLead p w steps last × IsTrue
 
 -- a plan of the problem
 abbrev pub IsPlan : Pair → List (List ℕ × List (List ℕ)) → Type 0
-IsPlan p steps = IsPlanFrom p (first_world p) steps
+IsPlan p steps = IsPlanFrom p (initial_world p) steps
 
 -- ---- the step within the range
 
 -- the effects, within the range
 abbrev pub ranged_effects : Schema → List (List ℕ) → WorldValue → Stepped
 ranged_effects s args w =
-    if are_changes_valued in_bounds s.params args w (changes_by s.params args s.effects) then answer.Next (next_world s.params args w s.effects)
+    if are_effects_valued in_bounds s.params args w (numeric_effects s.params args s.effects) then answer.Next (next_world s.params args w s.effects)
     else answer.Over
 
 -- an action whose arguments fit: the first that applies of

@@ -13,9 +13,10 @@ use Rattle.pddl_terms.specs.declared.conditions.Cond.TheOpen as condition
 use Rattle.pddl_types.specs.declared.pairs.Pair.{Pair}
 use Rattle.pddl_meaning.specs.declared.answers.Holds.{Holds}
 use Rattle.pddl_meaning.specs.declared.answers.Holds.TheVariants as answer
-use Rattle.pddl_meaning.specs.Texts.{argument_text, ground_text}
+use Rattle.pddl_terms.specs.Texts.{argument_text, ground_text}
 use Rattle.pddl_meaning.specs.Worlds.{WorldValue}
-use Rattle.pddl_meaning.specs.Values.{value_of, ranged_value, reads_defined, operands_fit}
+use Rattle.num_ends.specs.Range.{operands_fit}
+use Rattle.pddl_meaning.specs.Values.{value_of, ranged_value, reads_defined}
 
 -- ---- comparisons
 

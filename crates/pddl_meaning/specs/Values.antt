@@ -1,26 +1,27 @@
 -- The values of expressions in a world, without bounds and within the range of the code's decimals.
-use Rattle.std.specs.Prelude.{ℕ, ℤ, ◌+◌, ◌^◌, ◌/◌, ◌%◌, ◌==◌, ◌&&◌, ◌||◌, Bool, true, List, Option, Some, None, pos, neg_ℤ, not, nat_le, nat_lt, int_lt, unsigned_abs, option_map, if◌then◌else◌}
+use Rattle.std.specs.Prelude.{ℕ, ℤ, ◌+◌, ◌^◌, ◌/◌, ◌%◌, ◌==◌, ◌&&◌, ◌||◌, Bool, true, List, Option, Some, None, pos, neg_ℤ, not, nat_le, int_lt, unsigned_abs, option_map, if◌then◌else◌}
 use Rattle.std.specs.Option.{option_and_then}
 use Rattle.std.specs.FinMap as finite
-use Rattle.num_ends.specs.Decimal.{Decimal, common_places, number_at, sum_of, difference_of, product_of, trimmed}
+use Rattle.num_ends.specs.Decimal.{Decimal, sum_of, difference_of, product_of, trimmed}
+use Rattle.num_ends.specs.Range.{in_range, operands_fit, where_fits}
 use Rattle.pddl_terms.specs.declared.names.Typed.{Typed}
 use Rattle.pddl_terms.specs.declared.expressions.Op.{Op}
 use Rattle.pddl_terms.specs.declared.expressions.Op.TheVariants as op
 use Rattle.pddl_terms.specs.declared.expressions.Expr.{Expr, Expr-F, fold-Expr}
 use Rattle.pddl_terms.specs.declared.expressions.Expr.TheOpen as expression
-use Rattle.pddl_meaning.specs.Texts.{ground_text}
+use Rattle.pddl_terms.specs.Texts.{ground_text}
 use Rattle.pddl_meaning.specs.Worlds.{WorldValue}
 
 -- ---- operations
 
-abbrev pub with_sign : Bool → ℕ → ℤ
-with_sign negative n = if negative then neg_ℤ (pos n) else pos n
+abbrev pub signed : Bool → ℕ → ℤ
+signed negative n = if negative then neg_ℤ (pos n) else pos n
 
 -- 1 over a decimal, trimmed, where that is a decimal of at most 9 places
 abbrev pub inverse_of : Decimal → Option Decimal
 inverse_of d =
     if unsigned_abs d.n == 0 || not (10 ^ (d.p + 9) % unsigned_abs d.n == 0) then None
-    else Some (trimmed (record { n = with_sign (int_lt d.n (pos 0)) (10 ^ (d.p + 9) / unsigned_abs d.n); p = 9 }))
+    else Some (trimmed (record { n = signed (int_lt d.n (pos 0)) (10 ^ (d.p + 9) / unsigned_abs d.n); p = 9 }))
 
 -- what an operation gives, trimmed, without bounds: a division is the product with the divisor's inverse, where it has one
 unfoldable pub exactly : Op → Decimal → Decimal → Option Decimal
@@ -28,17 +29,6 @@ exactly op.Add a b = Some (trimmed (sum_of a b))
 exactly op.Sub a b = Some (trimmed (difference_of a b))
 exactly op.Mul a b = Some (trimmed (product_of a b))
 exactly op.Div a b = option_map (λ e. trimmed (product_of a e)) (inverse_of b)
-
-abbrev pub in_range : ℤ → Bool
-in_range n = nat_lt (unsigned_abs n) (2 ^ 127)
-
--- both are in range at the larger of their counts of places
-abbrev pub operands_fit : Decimal → Decimal → Bool
-operands_fit a b = in_range (number_at (common_places a b) a) && in_range (number_at (common_places a b) b)
-
--- a decimal where a test passes
-abbrev pub where_fits : Bool → Decimal → Option Decimal
-where_fits fits d = if fits then Some d else None
 
 abbrev pub ranged_product : Decimal → Decimal → Option Decimal
 ranged_product a b = where_fits (nat_le (a.p + b.p) 18 && in_range (product_of a b).n) (trimmed (product_of a b))

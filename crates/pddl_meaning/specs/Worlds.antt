@@ -8,7 +8,7 @@ use Rattle.std.specs.FinSet as set
 use Rattle.std.specs.FinMap as finite
 use Rattle.num_ends.specs.Decimal.{Decimal, trimmed}
 use Rattle.pddl_types.specs.declared.pairs.Pair.{Pair}
-use Rattle.pddl_meaning.specs.Texts.{ground_text}
+use Rattle.pddl_terms.specs.Texts.{ground_text}
 
 -- texts in the order of their bytes
 abbrev pub text_cmp : List ℕ → List ℕ → Ordering
@@ -35,8 +35,8 @@ world_code =
     (λ w. (w.facts, w.values)) (λ p. record { facts = p.0; values = p.1 }) (λ _. refl)
 
 -- the world of a problem's `:init`
-abbrev pub first_world : Pair → WorldValue
-first_world p = record {
+abbrev pub initial_world : Pair → WorldValue
+initial_world p = record {
   facts = set.from_list (map (ground_text [] []) p.problem.facts);
   values = finite.from_entries (map (λ v. (ground_text [] [] v.0, trimmed v.1)) p.problem.values);
 }

@@ -5,7 +5,7 @@ ghost use Rattle.pddl_meaning.specs.Truth.{ranged_goal};
 
 use crate::answers::Holds;
 use crate::conditions::{is_defined, truth};
-use crate::texts::Scope;
+use crate::texts::Binding;
 use crate::world::World;
 use num_ends::NoMemory;
 use pddl_types::Checked;
@@ -17,15 +17,15 @@ use std::alloc::Global;
 pub fn goal(alloc: Global, checked: &Checked, world: &World) -> Result<Holds, NoMemory>
     ensures { IfOk result (λ holds. holds ≡ ranged_goal checked.now world.now) }
 {
-    let scope = Scope {
+    let binding = Binding {
         world,
         params: &[],
         args: &[],
     };
     let goal = &checked.problem().goal;
     let mut buffer = Vec::new(alloc);
-    if !is_defined(&scope, goal, &mut buffer)? {
+    if !is_defined(&binding, goal, &mut buffer)? {
         return Ok(Holds::No);
     }
-    truth(&scope, goal, &mut buffer)
+    truth(&binding, goal, &mut buffer)
 }

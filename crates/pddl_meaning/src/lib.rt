@@ -22,8 +22,3 @@ pub use laws::{divisors_are_inverted, ranged_goals_agree};
 pub use starting::start;
 pub use steps::step;
 pub use world::World;
-
-#[cfg(test)]
-mod step_tests;
-#[cfg(test)]
-mod tests;

@@ -4,10 +4,10 @@ ghost use Rattle.std.specs.Prelude.{◌≡◌, [], IfOk, map};
 ghost use Rattle.std.specs.FinSet as set;
 ghost use Rattle.std.specs.FinMap as finite;
 ghost use Rattle.num_ends.specs.Decimal.{trimmed};
-ghost use Rattle.pddl_meaning.specs.Texts.{ground_text};
-ghost use Rattle.pddl_meaning.specs.Worlds.{first_world};
+ghost use Rattle.pddl_terms.specs.Texts.{ground_text};
+ghost use Rattle.pddl_meaning.specs.Worlds.{initial_world};
 
-use crate::texts::{Scope, ground_text};
+use crate::texts::{Binding, ground_text};
 use crate::world::World;
 use num_ends::{Dec, NoMemory};
 use pddl_terms::Atom;
@@ -19,12 +19,12 @@ fn object_text(alloc: Global, atom: &Atom) -> Result<Vec<u8>, NoMemory>
     ensures { IfOk result (λ text. text.items ≡ ground_text [] [] atom.now) }
 {
     let nothing = World::empty(alloc);
-    let scope = Scope {
+    let binding = Binding {
         world: &nothing,
         params: &[],
         args: &[],
     };
-    ground_text(alloc, &scope, atom)
+    ground_text(alloc, &binding, atom)
 }
 
 fn with_facts(alloc: Global, mut world: World, facts: &[Atom]) -> Result<World, NoMemory>
@@ -54,7 +54,7 @@ fn with_values(alloc: Global, mut world: World, values: &[(Atom, Dec)]) -> Resul
 
 /// The world of the problem's initial state.
 pub fn start(alloc: Global, checked: &Checked) -> Result<World, NoMemory>
-    ensures { IfOk result (λ world. world ≡ first_world checked.now) }
+    ensures { IfOk result (λ world. world ≡ initial_world checked.now) }
 {
     let problem = checked.problem();
     let world = with_facts(alloc, World::empty(alloc), problem.facts.as_slice())?;

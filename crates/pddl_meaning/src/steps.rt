@@ -2,15 +2,15 @@
 
 ghost use Rattle.std.specs.Prelude.{◌≡◌, IfOk, OnOk, map};
 ghost use Rattle.std.specs.Option.{option_copied};
-ghost use Rattle.pddl_meaning.specs.Computed.{amount_of, effects_answer, over_answer, ready_answer, stepped_by};
-ghost use Rattle.pddl_meaning.specs.Effects.{changes_by};
+ghost use Rattle.pddl_meaning.specs.internal.Computed.{evaluation_of, effects_answer, over_answer, ready_answer, stepped_by};
+ghost use Rattle.pddl_meaning.specs.Effects.{numeric_effects};
 ghost use Rattle.pddl_meaning.specs.Steps.{all_fit, fits, ranged_action, ranged_step, schema_named, without_world, world_after};
 
 use crate::answers::{Advanced, Holds, Stepped};
 use crate::conditions::{is_defined, truth};
-use crate::effects::{Amount, added_texts, deleted_texts, new_values, ready_amounts};
+use crate::effects::{Evaluation, added_texts, deleted_texts, new_values, ready_evaluations};
 use crate::literals::literals_true;
-use crate::texts::Scope;
+use crate::texts::Binding;
 use crate::world::World;
 use crate::writes::{Prepared, Writes, copy_of, write};
 use num_ends::{List, NoMemory, Text};
@@ -56,25 +56,25 @@ fn all_fit(checked: &Checked, params: &[Typed], args: &[Text]) -> bool
 
 // ---- actions
 
-/// What effects do whose amounts are known.
+/// What effects do whose evaluations are known.
 fn prepare_writes(
     alloc: Global,
-    scope: &Scope,
+    binding: &Binding,
     effects: &[Effect],
-    amounts: List<Amount>,
+    evaluations: List<Evaluation>,
 ) -> Result<Prepared, NoMemory>
-    requires { amounts ≡ map (amount_of scope.now.params.now scope.now.args.now scope.now.world.now) (changes_by scope.now.params.now scope.now.args.now effects.now) }
-    ensures { IfOk result (λ r. stepped_by scope.now.world.now r ≡ effects_answer scope.now.params.now scope.now.args.now scope.now.world.now effects.now) }
+    requires { evaluations ≡ map (evaluation_of binding.now.params.now binding.now.args.now binding.now.world.now) (numeric_effects binding.now.params.now binding.now.args.now effects.now) }
+    ensures { IfOk result (λ r. stepped_by binding.now.world.now r ≡ effects_answer binding.now.params.now binding.now.args.now binding.now.world.now effects.now) }
 {
-    match new_values(alloc, amounts.as_slice())? {
+    match new_values(alloc, evaluations.as_slice())? {
         None => Ok(Prepared::Over),
         Some(news) => {
-            let deleted = deleted_texts(alloc, scope, effects)?;
-            let added = added_texts(alloc, scope, effects)?;
+            let deleted = deleted_texts(alloc, binding, effects)?;
+            let added = added_texts(alloc, binding, effects)?;
             Ok(Prepared::Ready(Writes {
                 deleted,
                 added,
-                amounts,
+                evaluations,
                 news,
             }))
         }
@@ -84,14 +84,14 @@ fn prepare_writes(
 /// What effects do where the precondition is true.
 fn prepare_effects(
     alloc: Global,
-    scope: &Scope,
+    binding: &Binding,
     effects: &[Effect],
     buffer: &mut Vec<u8>,
 ) -> Result<Prepared, NoMemory>
-    ensures { IfOk result (λ r. stepped_by scope.now.world.now r ≡ ready_answer scope.now.params.now scope.now.args.now scope.now.world.now effects.now) }
+    ensures { IfOk result (λ r. stepped_by binding.now.world.now r ≡ ready_answer binding.now.params.now binding.now.args.now binding.now.world.now effects.now) }
 {
-    match ready_amounts(alloc, scope, effects, buffer)? {
-        Some(amounts) => prepare_writes(alloc, scope, effects, amounts),
+    match ready_evaluations(alloc, binding, effects, buffer)? {
+        Some(evaluations) => prepare_writes(alloc, binding, effects, evaluations),
         None => Ok(Prepared::Blocked),
     }
 }
@@ -99,16 +99,16 @@ fn prepare_effects(
 /// What an action does whose precondition leaves the range: something that is looked at before may block it.
 fn prepare_over(
     alloc: Global,
-    scope: &Scope,
+    binding: &Binding,
     pre: &Cond,
     effects: &[Effect],
     buffer: &mut Vec<u8>,
 ) -> Result<Prepared, NoMemory>
-    ensures { IfOk result (λ r. stepped_by scope.now.world.now r ≡ over_answer scope.now.params.now scope.now.args.now scope.now.world.now pre.now effects.now) }
+    ensures { IfOk result (λ r. stepped_by binding.now.world.now r ≡ over_answer binding.now.params.now binding.now.args.now binding.now.world.now pre.now effects.now) }
 {
-    let defined = is_defined(scope, pre, buffer)?;
-    let ready = ready_amounts(alloc, scope, effects, buffer)?.is_some();
-    let literals = literals_true(scope, pre, true, buffer)?;
+    let defined = is_defined(binding, pre, buffer)?;
+    let ready = ready_evaluations(alloc, binding, effects, buffer)?.is_some();
+    let literals = literals_true(binding, pre, true, buffer)?;
     if defined && ready && literals {
         Ok(Prepared::Over)
     } else {
@@ -126,17 +126,17 @@ fn prepare_action(
 ) -> Result<Prepared, NoMemory>
     ensures { IfOk result (λ r. stepped_by world.now r ≡ ranged_action schema.now args.now world.now) }
 {
-    let scope = Scope {
+    let binding = Binding {
         world,
         params: schema.params.as_slice(),
         args,
     };
     let effects = schema.effects.as_slice();
     let mut buffer = Vec::new(alloc);
-    match truth(&scope, &schema.pre, &mut buffer)? {
-        Holds::Yes => prepare_effects(alloc, &scope, effects, &mut buffer),
+    match truth(&binding, &schema.pre, &mut buffer)? {
+        Holds::Yes => prepare_effects(alloc, &binding, effects, &mut buffer),
         Holds::No => Ok(Prepared::Blocked),
-        Holds::Over => prepare_over(alloc, &scope, &schema.pre, effects, &mut buffer),
+        Holds::Over => prepare_over(alloc, &binding, &schema.pre, effects, &mut buffer),
     }
 }
 

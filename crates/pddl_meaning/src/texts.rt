@@ -1,7 +1,7 @@
 //! The texts of ground facts and fluents.
 
 ghost use Rattle.std.specs.Prelude.{◌≡◌, ◌∷◌, ◌++◌, IfOk, OnOk, flat_map};
-ghost use Rattle.pddl_meaning.specs.Texts.{argument_text, ground_text, variable_text};
+ghost use Rattle.pddl_terms.specs.Texts.{argument_text, ground_text, variable_text};
 
 use crate::world::World;
 use num_ends::{NoMemory, Text};
@@ -11,7 +11,7 @@ use std::alloc::Global;
 /// A world that is read, and what the variables of an action stand for there: the parameters and, place by place, the
 /// arguments.
 #[derive(Clone, Copy)]
-pub(crate) struct Scope<'a> {
+pub(crate) struct Binding<'a> {
     pub(crate) world: &'a World,
     pub(crate) params: &'a [Typed],
     pub(crate) args: &'a [Text],
@@ -32,21 +32,21 @@ fn variable_text<'a>(params: &[Typed], args: &'a [Text], name: &'a [u8]) -> &'a 
 }
 
 /// The text of the object that an argument stands for.
-pub(crate) fn argument_text<'a>(scope: &Scope<'a>, arg: &'a Arg) -> &'a [u8]
-    ensures { result.now ≡ argument_text scope.now.params.now scope.now.args.now arg.now }
+pub(crate) fn argument_text<'a>(binding: &Binding<'a>, arg: &'a Arg) -> &'a [u8]
+    ensures { result.now ≡ argument_text binding.now.params.now binding.now.args.now arg.now }
 {
     match arg {
-        Arg::Var(name) => variable_text(scope.params, scope.args, name.text.as_slice()),
+        Arg::Var(name) => variable_text(binding.params, binding.args, name.text.as_slice()),
         Arg::Obj(name) => name.text.as_slice(),
     }
 }
 
-fn append_arguments(scope: &Scope, args: &[Arg], out: &mut Vec<u8>) -> Result<(), NoMemory>
-    ensures { OnOk result (out.new.items ≡ out.old.items ++ flat_map (λ a. 32 ∷ argument_text scope.now.params.now scope.now.args.now a) args.now) }
+fn append_arguments(binding: &Binding, args: &[Arg], out: &mut Vec<u8>) -> Result<(), NoMemory>
+    ensures { OnOk result (out.new.items ≡ out.old.items ++ flat_map (λ a. 32 ∷ argument_text binding.now.params.now binding.now.args.now a) args.now) }
 {
     'each: for arg in args {
         out.push(b' ')?;
-        out.extend_from_slice(argument_text(&*scope, arg))?;
+        out.extend_from_slice(argument_text(&*binding, arg))?;
     }
     Ok(())
 }
@@ -54,25 +54,29 @@ fn append_arguments(scope: &Scope, args: &[Arg], out: &mut Vec<u8>) -> Result<()
 /// Puts the text of an atom into a buffer, in the place of what was there.
 #[tactic(auto, using(crate::proofs::Spelled::spelled))]
 pub(crate) fn write_ground_text(
-    scope: &Scope,
+    binding: &Binding,
     atom: &Atom,
     buffer: &mut Vec<u8>,
 ) -> Result<(), NoMemory>
-    ensures { OnOk result (buffer.new.items ≡ ground_text scope.now.params.now scope.now.args.now atom.now) }
+    ensures { OnOk result (buffer.new.items ≡ ground_text binding.now.params.now binding.now.args.now atom.now) }
 {
     buffer.clear();
     buffer.push(b'(')?;
     buffer.extend_from_slice(atom.head.text.as_slice())?;
-    append_arguments(scope, atom.args.as_slice(), buffer)?;
+    append_arguments(binding, atom.args.as_slice(), buffer)?;
     buffer.push(b')')?;
     Ok(())
 }
 
 /// The text of an atom.
-pub(crate) fn ground_text(alloc: Global, scope: &Scope, atom: &Atom) -> Result<Vec<u8>, NoMemory>
-    ensures { IfOk result (λ text. text.items ≡ ground_text scope.now.params.now scope.now.args.now atom.now) }
+pub(crate) fn ground_text(
+    alloc: Global,
+    binding: &Binding,
+    atom: &Atom,
+) -> Result<Vec<u8>, NoMemory>
+    ensures { IfOk result (λ text. text.items ≡ ground_text binding.now.params.now binding.now.args.now atom.now) }
 {
     let mut text = Vec::new(alloc);
-    write_ground_text(scope, atom, &mut text)?;
+    write_ground_text(binding, atom, &mut text)?;
     Ok(text)
 }

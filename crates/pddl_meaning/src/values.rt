@@ -3,10 +3,10 @@
 ghost use Rattle.std.specs.Prelude.{◌≡◌, IfOk};
 ghost use Rattle.std.specs.FinMap as finite;
 ghost use Rattle.pddl_terms.specs.declared.expressions.Op.TheVariants as op;
-ghost use Rattle.pddl_meaning.specs.Texts.{ground_text};
+ghost use Rattle.pddl_terms.specs.Texts.{ground_text};
 ghost use Rattle.pddl_meaning.specs.Values.{combined, in_bounds, inverse_of, ranged_product, ranged_value, reads_defined};
 
-use crate::texts::{Scope, write_ground_text};
+use crate::texts::{Binding, write_ground_text};
 use num_ends::{Dec, NoMemory};
 use pddl_terms::{Atom, Expr, Op};
 
@@ -83,29 +83,29 @@ pub(crate) fn combine(op: Op, left: Option<Dec>, right: Option<Dec>) -> Option<D
     }
 }
 
-fn read_value(scope: &Scope, atom: &Atom, buffer: &mut Vec<u8>) -> Result<Option<Dec>, NoMemory>
-    ensures { IfOk result (λ value. value ≡ finite.get scope.now.world.now.values (ground_text scope.now.params.now scope.now.args.now atom.now)) }
+fn read_value(binding: &Binding, atom: &Atom, buffer: &mut Vec<u8>) -> Result<Option<Dec>, NoMemory>
+    ensures { IfOk result (λ value. value ≡ finite.get binding.now.world.now.values (ground_text binding.now.params.now binding.now.args.now atom.now)) }
 {
-    write_ground_text(scope, atom, buffer)?;
-    Ok(scope.world.value(buffer.as_slice()))
+    write_ground_text(binding, atom, buffer)?;
+    Ok(binding.world.value(buffer.as_slice()))
 }
 
 /// The value of an expression; none where it reads an undefined fluent or a subvalue leaves the range. The buffer is for
 /// the texts of fluents.
 #[tactic(auto, using(crate::proofs::Layers::value_of_Lit, crate::proofs::Layers::value_of_Read, crate::proofs::Layers::value_of_Op))]
 pub(crate) fn value_of(
-    scope: &Scope,
+    binding: &Binding,
     expr: &Expr,
     buffer: &mut Vec<u8>,
 ) -> Result<Option<Dec>, NoMemory>
-    ensures { IfOk result (λ value. value ≡ ranged_value scope.now.params.now scope.now.args.now scope.now.world.now expr.now) }
+    ensures { IfOk result (λ value. value ≡ ranged_value binding.now.params.now binding.now.args.now binding.now.world.now expr.now) }
 {
     match expr {
         Expr::Lit(value, _) => Ok(Some(value.trim())),
-        Expr::Read(atom) => read_value(scope, atom, buffer),
+        Expr::Read(atom) => read_value(binding, atom, buffer),
         Expr::Op(_, op, left, right) => {
-            let left = value_of(scope, left.get(), buffer)?;
-            let right = value_of(scope, right.get(), buffer)?;
+            let left = value_of(binding, left.get(), buffer)?;
+            let right = value_of(binding, right.get(), buffer)?;
             Ok(combine(*op, left, right))
         }
     }
@@ -114,18 +114,18 @@ pub(crate) fn value_of(
 /// Whether each fluent that an expression reads is defined. The buffer is for the texts of fluents.
 #[tactic(auto, using(crate::proofs::Layers::reads_of_Lit, crate::proofs::Layers::reads_of_Read, crate::proofs::Layers::reads_of_Op))]
 pub(crate) fn reads_defined(
-    scope: &Scope,
+    binding: &Binding,
     expr: &Expr,
     buffer: &mut Vec<u8>,
 ) -> Result<bool, NoMemory>
-    ensures { IfOk result (λ defined. defined ≡ reads_defined scope.now.params.now scope.now.args.now scope.now.world.now expr.now) }
+    ensures { IfOk result (λ defined. defined ≡ reads_defined binding.now.params.now binding.now.args.now binding.now.world.now expr.now) }
 {
     match expr {
         Expr::Lit(_, _) => Ok(true),
-        Expr::Read(atom) => Ok(read_value(scope, atom, buffer)?.is_some()),
+        Expr::Read(atom) => Ok(read_value(binding, atom, buffer)?.is_some()),
         Expr::Op(_, _, left, right) => {
-            let left = reads_defined(scope, left.get(), buffer)?;
-            let right = reads_defined(scope, right.get(), buffer)?;
+            let left = reads_defined(binding, left.get(), buffer)?;
+            let right = reads_defined(binding, right.get(), buffer)?;
             Ok(left && right)
         }
     }

@@ -3,9 +3,9 @@
 ghost use Rattle.std.specs.Prelude.{◌≡◌, IfOk, OnOk};
 ghost use Rattle.std.specs.FinSet as set;
 ghost use Rattle.std.specs.List.{zip};
-ghost use Rattle.pddl_meaning.specs.Computed.{with_values, written};
+ghost use Rattle.pddl_meaning.specs.internal.Computed.{with_values, written};
 
-use crate::effects::Amount;
+use crate::effects::Evaluation;
 use crate::world::World;
 use num_ends::{Dec, List, NoMemory, Text};
 
@@ -17,7 +17,7 @@ pub(crate) struct Writes {
     /// The facts that are added, after that.
     pub(crate) added: List<Text>,
     /// The changed fluents, some of them maybe more than once.
-    pub(crate) amounts: List<Amount>,
+    pub(crate) evaluations: List<Evaluation>,
     /// The new value of each.
     pub(crate) news: List<Dec>,
 }
@@ -59,11 +59,15 @@ fn add_facts(world: &mut World, texts: List<Text>) -> Result<(), NoMemory>
     Ok(())
 }
 
-fn set_values(world: &mut World, amounts: List<Amount>, news: List<Dec>) -> Result<(), NoMemory>
-    ensures { OnOk result (world.new ≡ record { facts = world.old.facts; values = with_values world.old.values (zip amounts news) }) }
+fn set_values(
+    world: &mut World,
+    evaluations: List<Evaluation>,
+    news: List<Dec>,
+) -> Result<(), NoMemory>
+    ensures { OnOk result (world.new ≡ record { facts = world.old.facts; values = with_values world.old.values (zip evaluations news) }) }
 {
-    'each: for (amount, new) in amounts.into_vec().into_iter().zip(news.into_vec()) {
-        let Amount { fluent, .. } = amount;
+    'each: for (evaluation, new) in evaluations.into_vec().into_iter().zip(news.into_vec()) {
+        let Evaluation { fluent, .. } = evaluation;
         world.set_value(fluent.into_vec(), new)?;
     }
     Ok(())
@@ -76,10 +80,10 @@ pub(crate) fn write(world: &mut World, writes: Writes) -> Result<(), NoMemory>
     let Writes {
         deleted,
         added,
-        amounts,
+        evaluations,
         news,
     } = writes;
     delete_facts(world, deleted.as_slice());
     add_facts(world, added)?;
-    set_values(world, amounts, news)
+    set_values(world, evaluations, news)
 }

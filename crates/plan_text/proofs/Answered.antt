@@ -4,7 +4,7 @@ use Rattle.std.specs.Prelude.{option_map}
 use Rattle.std.specs.Option.{option_map_or}
 use Rattle.plan_text.specs.declared.step.Step.{Step}
 use Rattle.plan_text.specs.Plans.{lines_of, IsSkipped, SpellsStep, LinesReadAs, ReadsAs, IsBad, IsFirstBad}
-use Rattle.plan_text.specs.Reading.{steps_in, read_from, is_skipped}
+use Rattle.plan_text.specs.internal.Reading.{steps_in, read_from, is_skipped}
 use Rattle.plan_text.proofs.Spelled.{same_some}
 use Rattle.plan_text.proofs.LineSteps.{step_read, skipped_read, step_not_skipped, line_read, line_spelled, line_bad, bad_line}
 use Rattle.std.proofs.lemmas.Bool.{both_ways}

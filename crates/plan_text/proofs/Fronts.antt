@@ -2,7 +2,7 @@
 use Rattle.std.proofs.Common.{◌≡◌, ℕ, ◌+◌, Bool, true, false, ◌&&◌, eqb, List, [], ◌∷◌, ◌++◌, take, drop, length, refl, sym, ap, ap₂, ◌∙◌, ◌≤◌, inl, inr, arith, one-add}
 use Rattle.std.proofs.lemmas.Bool.{cond-true, cond-false, cases_Bool, and_parts, and_left, ne_eqb}
 use Rattle.std.specs.List.{prefix_len, list_all}
-use Rattle.plan_text.specs.Reading.{front, past, behind_first, size_left}
+use Rattle.plan_text.specs.internal.Reading.{front, past, behind_first, size_left}
 
 pub front_taken : (p : ℕ → Bool) (xs : List ℕ) → take (prefix_len p xs) xs ≡ front p xs
 front_taken p [] = refl

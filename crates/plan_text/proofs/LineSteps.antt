@@ -8,8 +8,9 @@ use Rattle.std.specs.List.{list_all, filter, slice_split, onto_first}
 use Rattle.std.specs.Option.{option_map_or}
 use Rattle.num_ends.specs.Names.{is_digit, is_name, begins_name, continues_name}
 use Rattle.plan_text.specs.declared.step.Step.{Step}
-use Rattle.plan_text.specs.Plans.{is_space, folded, has_bytes, IsBlank, IsDigits, IsNumber, MayPrecede, is_named, SpellsStep, IsSkipped, LineReadsAs, IsBad}
-use Rattle.plan_text.specs.Reading.{front, past, behind_first, may_precede, may_follow, is_comment, is_skipped, names_of, step_of, cut_at, step_between, step_behind, step_in, steps_in}
+use Rattle.plan_text.specs.Plans.{is_space, has_bytes, IsBlank, IsDigits, IsNumber, MayPrecede, is_named, SpellsStep, IsSkipped, LineReadsAs, IsBad}
+use Rattle.num_ends.specs.Names.{folded}
+use Rattle.plan_text.specs.internal.Reading.{front, past, behind_first, may_precede, may_follow, is_comment, is_skipped, folded_words, step_of, cut_at, step_between, step_behind, step_in, steps_in}
 use Rattle.plan_text.proofs.Fronts.{begins, front_and_past, front_passes, past_stops, front_here, past_here, nothing_past}
 use Rattle.plan_text.proofs.Parts.{first_part}
 use Rattle.plan_text.proofs.Spelled.{bind_some, cond_some, same_some, all_through, all_joined, number_first, precede_read, precede_spelled, follow_read, follow_spelled}
@@ -123,7 +124,7 @@ module _ (byte : ℕ) (not_first : begins_name (folded byte) ≡ false) (not_mor
               (joined_lack xs (ap (list_all (lacks byte)) (first_part xs) ∙ and_from (lacks byte word) more first.1 both.1))
         ]
 
-    pub inside_lacks : (inside : List ℕ) → list_all is_name (names_of inside) ≡ true → lacks byte inside ≡ true
+    pub inside_lacks : (inside : List ℕ) → list_all is_name (folded_words inside) ≡ true → lacks byte inside ≡ true
     inside_lacks inside named = joined_lack inside (parts_lack (slice_split is_space inside) named)
 
 -- ---- steps
@@ -133,7 +134,7 @@ step_named ws step is named = ap step_of is ∙ cond-true (is_name step.name && 
 
 pub step_read : (line : List ℕ) (step : Step) → SpellsStep line step → step_in line ≡ Some step
 step_read line step is =
-    let named : list_all is_name (names_of is.inside) ≡ true = ap (list_all is_name) is.words ∙ is.named in
+    let named : list_all is_name (folded_words is.inside) ≡ true = ap (list_all is_name) is.words ∙ is.named in
     let opening : cut_at 40 line ≡ Some (is.before, is.inside ++ 41 ∷ is.behind) =
     ap (cut_at 40) is.spelled ∙ cut_here 40 is.before (is.inside ++ 41 ∷ is.behind) (precede_lacks is.before is.may_precede) in
     let closing : cut_at 41 (is.inside ++ 41 ∷ is.behind) ≡ Some (is.inside, is.behind) =
@@ -141,8 +142,8 @@ step_read line step is =
     let round = and_from (may_precede is.before) (may_follow is.behind) (precede_read is.before is.may_precede) (follow_read is.behind is.may_follow) in
     ap (λ (o : Option (List ℕ × List ℕ)). option_map_or (λ c. step_behind c.0 c.1) o None) opening
     ∙ ap (λ (o : Option (List ℕ × List ℕ)). option_map_or (λ c. step_between is.before c.0 c.1) o None) closing
-    ∙ cond-true (may_precede is.before && may_follow is.behind) (step_of (names_of is.inside)) None round
-    ∙ step_named (names_of is.inside) step is.words is.named
+    ∙ cond-true (may_precede is.before && may_follow is.behind) (step_of (folded_words is.inside)) None round
+    ∙ step_named (folded_words is.inside) step is.words is.named
 
 step_spells : (ws : List (List ℕ)) (step : Step) → step_of ws ≡ Some step → (ws ≡ step.name ∷ step.args) × IsTrue (is_named step)
 step_spells [] step e = absurd (none_some step e)
@@ -159,9 +160,9 @@ pub step_spelled : (line : List ℕ) (step : Step) → step_in line ≡ Some ste
 step_spelled line step e =
     let opening = bind_some (cut_at 40 line) (λ c. step_behind c.0 c.1) step e in
     let closing = bind_some (cut_at 41 opening.0.1) (λ c. step_between opening.0.0 c.0 c.1) step opening.2 in
-    let round = cond_some (may_precede opening.0.0 && may_follow closing.0.1) (step_of (names_of closing.0.0)) step closing.2 in
+    let round = cond_some (may_precede opening.0.0 && may_follow closing.0.1) (step_of (folded_words closing.0.0)) step closing.2 in
     let both = and_parts (may_precede opening.0.0) (may_follow closing.0.1) round.0 in
-    let words = step_spells (names_of closing.0.0) step round.1 in
+    let words = step_spells (folded_words closing.0.0) step round.1 in
     record {
       before = opening.0.0;
       inside = closing.0.0;

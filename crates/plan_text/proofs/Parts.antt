@@ -3,7 +3,7 @@ use Rattle.std.proofs.Common.{◌≡◌, ℕ, Bool, false, not, eqb, ap₂, List
 use Rattle.std.proofs.lemmas.Bool.{cond-true, cond-false, cases_Bool}
 use Rattle.std.specs.List.{slice_split, onto_first, filter}
 use Rattle.plan_text.specs.Plans.{lines_of, words_of, has_bytes, is_space}
-use Rattle.plan_text.specs.Reading.{front, past, behind_first, lines_left, with_first}
+use Rattle.plan_text.specs.internal.Reading.{front, past, behind_first, lines_left, with_first}
 use Rattle.plan_text.proofs.Fronts.{begins, past_stops, front_and_past, shorter_past}
 
 pub first_line : (text : List ℕ) → lines_of text ≡ front (λ b. not (eqb b 10)) text ∷ lines_left (behind_first (past (λ b. not (eqb b 10)) text))

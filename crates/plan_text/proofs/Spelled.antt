@@ -7,7 +7,7 @@ use Rattle.std.specs.List.{list_all}
 use Rattle.std.specs.Option.{option_map_or}
 use Rattle.num_ends.specs.Names.{is_digit}
 use Rattle.plan_text.specs.Plans.{is_space, IsBlank, IsDigits, IsNumber, IsMarkedNumber, MayPrecede, MayFollow}
-use Rattle.plan_text.specs.Reading.{front, past, behind_digits, behind_places, behind_number, is_blank, is_mark, is_marked_number, may_precede, is_bracketed, may_follow}
+use Rattle.plan_text.specs.internal.Reading.{front, past, behind_digits, behind_places, behind_number, is_blank, is_mark, is_marked_number, may_precede, is_bracketed, may_follow}
 use Rattle.plan_text.proofs.Fronts.{begins, front_and_past, front_passes, past_here, nothing_past}
 
 -- ---- options and tests that answer

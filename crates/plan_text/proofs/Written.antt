@@ -6,7 +6,8 @@ use Rattle.std.specs.List.{list_all, join_with_byte, onto_first}
 use Rattle.num_ends.specs.Names.{IsGroundText, is_name, begins_name, continues_name}
 use Rattle.std.specs.Prelude.{IsTrue}
 use Rattle.plan_text.specs.declared.step.Step.{Step}
-use Rattle.plan_text.specs.Plans.{is_space, folded, lines_of, words_of, is_named, SpellsStep, LinesReadAs, ReadsAs, step_line}
+use Rattle.plan_text.specs.Plans.{is_space, lines_of, words_of, is_named, SpellsStep, LinesReadAs, ReadsAs, step_line}
+use Rattle.num_ends.specs.Names.{folded}
 use Rattle.plan_text.proofs.Fronts.{begins, front_here, past_here}
 use Rattle.plan_text.proofs.Parts.{first_word}
 use Rattle.plan_text.proofs.Spelled.{all_through, all_joined}

@@ -1,16 +1,14 @@
 -- Plan files: which lines are skipped, which spell a step, and the steps that a text reads as.
-use Rattle.std.specs.Prelude.{ℕ, ◌≡◌, ◌+◌, ◌<◌, ◌++◌, ◌||◌, ◌&&◌, ◌==◌, ◌⊎◌, Bool, true, false, List, [], ◌∷◌, map, length, codes, IsTrue, nat_le, if◌then◌else◌}
+use Rattle.std.specs.Prelude.{ℕ, ◌≡◌, ◌+◌, ◌<◌, ◌++◌, ◌||◌, ◌==◌, ◌⊎◌, Bool, true, false, List, [], ◌∷◌, Result, Ok, Err, map, length, codes, IsTrue}
 use Rattle.std.specs.List.{filter, list_all, slice_split, join_with_byte}
-use Rattle.num_ends.specs.Names.{is_digit, is_name}
+use Rattle.num_ends.specs.Names.{folded, is_digit, is_name}
 use Rattle.plan_text.specs.declared.step.Step.{Step}
+use Rattle.plan_text.specs.declared.step.PlanFault.{PlanFault}
+use Rattle.plan_text.specs.declared.step.PlanFault.TheVariants as faults
 
 -- a space, a tab or a carriage return
 abbrev pub is_space : ℕ → Bool
 is_space b = b == 32 || b == 9 || b == 13
-
--- an upper-case letter as the lower-case one
-abbrev pub folded : ℕ → ℕ
-folded b = if nat_le 65 b && nat_le b 90 then b + 32 else b
 
 -- the lines of a text: its parts between line feeds; what follows the last line feed is a line too
 abbrev pub lines_of : List ℕ → List (List ℕ)
@@ -109,3 +107,9 @@ pub record IsFirstBad (text : List ℕ) (number : ℕ) : Type 0 where
 -- the line of a step, with its line feed
 abbrev pub step_line : Step → List ℕ
 step_line step = codes "(" ++ join_with_byte 32 (step.name ∷ step.args) ++ codes ")\n"
+
+-- what the reading of a text answers
+abbrev pub IsAnswer : List ℕ → Result (List Step) PlanFault → Type 0
+IsAnswer text (Ok steps) = ReadsAs text steps
+IsAnswer text (Err (faults.BadLine number)) = IsFirstBad text number
+IsAnswer text (Err faults.NoMemory) = Unit {0}

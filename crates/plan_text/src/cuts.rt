@@ -3,7 +3,7 @@
 ghost use Rattle.std.specs.Prelude.{◌≡◌, ◌≤◌, length, option_map};
 ghost use Rattle.std.specs.List.{prefix_len};
 ghost use Rattle.plan_text.specs.Plans.{is_space};
-ghost use Rattle.plan_text.specs.Reading.{is_of, front, past, behind_first};
+ghost use Rattle.plan_text.specs.internal.Reading.{is_of, front, past, behind_first};
 
 /// What bytes may be.
 #[derive(Clone, Copy, Debug)]

@@ -8,8 +8,6 @@ mod marks;
 mod names;
 mod read;
 mod step;
-#[cfg(test)]
-mod tests;
 mod write;
 
 pub use laws::{plan_has_one_reading, written_steps_are_read};

@@ -2,7 +2,7 @@
 
 ghost use Rattle.std.specs.Prelude.{◌≡◌, ◌≤◌, length, ◌∷◌, ◌++◌, Some, None, IfOk, option_map, if◌then◌else◌};
 ghost use Rattle.plan_text.specs.Plans.{lines_of};
-ghost use Rattle.plan_text.specs.Reading.{cut_at, is_comment, is_skipped, step_in, steps_in, lines_left, size_left};
+ghost use Rattle.plan_text.specs.internal.Reading.{cut_at, is_comment, is_skipped, step_in, steps_in, lines_left, size_left};
 
 use crate::cuts::{Kind, behind_first, cut, past_space};
 use crate::marks::{may_follow, may_precede};

@@ -1,7 +1,7 @@
 //! The time of a step, as `0.5 :`, and how long it lasts, as `[1]`. Both are read over.
 
 ghost use Rattle.std.specs.Prelude.{◌≡◌, option_map};
-ghost use Rattle.plan_text.specs.Reading.{behind_digits, behind_places, behind_number, is_blank, is_mark, is_marked_number, is_bracketed, may_precede, may_follow};
+ghost use Rattle.plan_text.specs.internal.Reading.{behind_digits, behind_places, behind_number, is_blank, is_mark, is_marked_number, is_bracketed, may_precede, may_follow};
 
 use crate::cuts::{Kind, cut, past_space};
 

@@ -1,7 +1,7 @@
 //! Plan files read as steps.
 
 ghost use Rattle.std.specs.Prelude.{◌≡◌, ◌^◌, ◌≤◌, length};
-ghost use Rattle.plan_text.specs.Reading.{IsAnswer};
+ghost use Rattle.plan_text.specs.Plans.{IsAnswer};
 
 use crate::lines::{first_line, read_line};
 use crate::step::{PlanFault, Step};

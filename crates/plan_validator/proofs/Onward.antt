@@ -6,7 +6,7 @@ use Rattle.pddl_meaning.specs.declared.answers.Holds.{Holds}
 use Rattle.pddl_meaning.specs.declared.answers.Holds.TheVariants as truth
 use Rattle.pddl_meaning.specs.declared.answers.Stepped.{Stepped}
 use Rattle.pddl_meaning.specs.declared.answers.Stepped.TheVariants as answer
-use Rattle.pddl_meaning.specs.Worlds.{WorldValue, first_world}
+use Rattle.pddl_meaning.specs.Worlds.{WorldValue, initial_world}
 use Rattle.pddl_meaning.specs.Truth.{ranged_goal}
 use Rattle.plan_text.specs.declared.step.Step.{Step}
 use Rattle.plan_validator.specs.declared.verdicts.Verdict.{Verdict}
@@ -47,18 +47,18 @@ passed p (s ∷ before) rest w mid n (next, is, led) =
     ∙ passed p before rest next mid (n + 1) led
     ∙ ap (λ (k : ℕ). verdict_from p mid k rest) (omega arith)
 
-ended : (p : Pair) (steps : List Step) (goal : Holds) → EndsWith p steps goal → verdict_from p (first_world p) 1 steps ≡ at_goal goal
-ended p steps goal e = reached p steps (first_world p) e.last 1 e.led ∙ ap at_goal e.ends
+ended : (p : Pair) (steps : List Step) (goal : Holds) → EndsWith p steps goal → verdict_from p (initial_world p) 1 steps ≡ at_goal goal
+ended p steps goal e = reached p steps (initial_world p) e.last 1 e.led ∙ ap at_goal e.ends
 
 failed : (p : Pair) (steps : List Step) (number : ℕ) (failure : Stepped) (f : FailsAt p steps number failure)
-    → verdict_from p (first_world p) 1 steps ≡ on_answer failure number (λ next. verdict_from p next (number + 1) f.rest)
+    → verdict_from p (initial_world p) 1 steps ≡ on_answer failure number (λ next. verdict_from p next (number + 1) f.rest)
 failed p steps number failure f =
-    ap (verdict_from p (first_world p) 1) f.spelled
-    ∙ passed p f.before (f.step ∷ f.rest) (first_world p) f.world 1 f.led
+    ap (verdict_from p (initial_world p) 1) f.spelled
+    ∙ passed p f.before (f.step ∷ f.rest) (initial_world p) f.world 1 f.led
     ∙ ap (λ (k : ℕ). verdict_from p f.world k (f.step ∷ f.rest)) (sym f.place)
     ∙ ap (λ (a : Stepped). on_answer a number (λ (next : WorldValue). verdict_from p next (number + 1) f.rest)) f.fails
 
-pub is_this : (p : Pair) (steps : List Step) (v : Verdict) → IsVerdict p steps v → verdict_from p (first_world p) 1 steps ≡ v
+pub is_this : (p : Pair) (steps : List Step) (v : Verdict) → IsVerdict p steps v → verdict_from p (initial_world p) 1 steps ≡ v
 is_this p steps verdict.Valid e = ended p steps truth.Yes e
 is_this p steps (verdict.Blocked i) e = failed p steps i answer.Blocked e
 is_this p steps (verdict.Illegal i) e = failed p steps i answer.Illegal e
@@ -123,14 +123,14 @@ from p (s ∷ steps) w n = by_answer (λ next. from p steps next (n + 1)) (answe
     by_answer behind answer.Illegal is = fails_here p w n s steps answer.Illegal is
     by_answer behind answer.Over is = fails_here p w n s steps answer.Over is
 
-ends_at_first : (p : Pair) (steps : List Step) (goal : Holds) → EndsFrom p (first_world p) steps goal → EndsWith p steps goal
+ends_at_first : (p : Pair) (steps : List Step) (goal : Holds) → EndsFrom p (initial_world p) steps goal → EndsWith p steps goal
 ends_at_first p steps goal (last, led, ends) = record { last = last; led = led; ends = ends }
 
-fails_at_first : (p : Pair) (steps : List Step) (i : ℕ) (failure : Stepped) → FailsFrom p (first_world p) 1 steps i failure → FailsAt p steps i failure
+fails_at_first : (p : Pair) (steps : List Step) (i : ℕ) (failure : Stepped) → FailsFrom p (initial_world p) 1 steps i failure → FailsAt p steps i failure
 fails_at_first p steps i failure (before, step, rest, mid, spelled, place, led, fails) =
     record { before = before; step = step; rest = rest; spelled = spelled; place = place; world = mid; led = led; fails = fails }
 
-from_first : (p : Pair) (steps : List Step) (v : Verdict) → IsVerdictFrom p (first_world p) 1 steps v → IsVerdict p steps v
+from_first : (p : Pair) (steps : List Step) (v : Verdict) → IsVerdictFrom p (initial_world p) 1 steps v → IsVerdict p steps v
 from_first p steps verdict.Valid e = ends_at_first p steps truth.Yes e
 from_first p steps (verdict.Blocked i) e = fails_at_first p steps i answer.Blocked e
 from_first p steps (verdict.Illegal i) e = fails_at_first p steps i answer.Illegal e
@@ -139,8 +139,8 @@ from_first p steps verdict.OverGoal e = ends_at_first p steps truth.Over e
 from_first p steps verdict.NotGoal e = ends_at_first p steps truth.No e
 
 -- the verdict that is found is the verdict
-pub told : (p : Pair) (steps : List Step) (v : Verdict) → verdict_from p (first_world p) 1 steps ≡ v → IsVerdict p steps v
-told p steps v is = subst (IsVerdict p steps) is (from_first p steps (verdict_from p (first_world p) 1 steps) (from p steps (first_world p) 1))
+pub told : (p : Pair) (steps : List Step) (v : Verdict) → verdict_from p (initial_world p) 1 steps ≡ v → IsVerdict p steps v
+told p steps v is = subst (IsVerdict p steps) is (from_first p steps (verdict_from p (initial_world p) 1 steps) (from p steps (initial_world p) 1))
 
 -- the steps from the one at an index on
 stops : (p : Pair) (w : WorldValue) (n i : ℕ) (plan : List Step) (s : Step) (failure : Stepped) → i < length plan → s ≡ get_or plan i s → answer_to p w s ≡ failure
@@ -152,7 +152,7 @@ stops p w n i plan s failure within there is =
 
 -- what was done, and then the rest, is the whole
 abbrev pub IsWhole : Pair → WorldValue → ℕ → ℕ → List Step → Type 0
-IsWhole p w n i plan = verdict_from p w n (drop i plan) ≡ verdict_from p (first_world p) 1 plan
+IsWhole p w n i plan = verdict_from p w n (drop i plan) ≡ verdict_from p (initial_world p) 1 plan
 
 pub blocked_here : (p : Pair) (w : WorldValue) (n i : ℕ) (plan : List Step) (s : Step) → IsWhole p w n i plan → i < length plan → s ≡ get_or plan i s
     → answer_to p w s ≡ answer.Blocked → FailsAt p plan n answer.Blocked
@@ -168,7 +168,7 @@ over_here p w n i plan s whole within there is = told p plan (verdict.Over n) (s
 
 -- no steps are left
 at_end : (p : Pair) (w : WorldValue) (n i : ℕ) (plan : List Step) (goal : Holds) → IsWhole p w n i plan → length plan ≤ i → ranged_goal p w ≡ goal
-    → verdict_from p (first_world p) 1 plan ≡ at_goal goal
+    → verdict_from p (initial_world p) 1 plan ≡ at_goal goal
 at_end p w n i plan goal whole past is = sym whole ∙ ap (verdict_from p w n) (drop_all i plan past) ∙ ap at_goal is
 
 pub valid_here : (p : Pair) (w : WorldValue) (n i : ℕ) (plan : List Step) → IsWhole p w n i plan → length plan ≤ i → ranged_goal p w ≡ truth.Yes
@@ -186,7 +186,7 @@ over_goal_here p w n i plan whole past is = told p plan verdict.OverGoal (at_end
 -- ---- the laws
 
 pub some_verdict : (p : Pair) (steps : List Step) → (v : Verdict) × IsVerdict p steps v
-some_verdict p steps = (verdict_from p (first_world p) 1 steps, told p steps (verdict_from p (first_world p) 1 steps) refl)
+some_verdict p steps = (verdict_from p (initial_world p) 1 steps, told p steps (verdict_from p (initial_world p) 1 steps) refl)
 
 pub one_verdict : (p : Pair) (steps : List Step) (first second : Verdict) → IsVerdict p steps first → IsVerdict p steps second → first ≡ second
 one_verdict p steps first second is also = sym (is_this p steps first is) ∙ is_this p steps second also

@@ -5,7 +5,7 @@ use Rattle.pddl_meaning.specs.declared.answers.Holds.{Holds}
 use Rattle.pddl_meaning.specs.declared.answers.Holds.TheVariants as truth
 use Rattle.pddl_meaning.specs.declared.answers.Stepped.{Stepped}
 use Rattle.pddl_meaning.specs.declared.answers.Stepped.TheVariants as answer
-use Rattle.pddl_meaning.specs.Worlds.{WorldValue, first_world}
+use Rattle.pddl_meaning.specs.Worlds.{WorldValue, initial_world}
 use Rattle.pddl_meaning.specs.Truth.{ranged_goal}
 use Rattle.pddl_meaning.specs.Steps.{ranged_step, IsPlan}
 use Rattle.plan_text.specs.declared.step.Step.{Step}
@@ -30,13 +30,13 @@ pub record FailsAt (pair : Pair) (steps : List Step) (number : ℕ) (failure : S
   pub spelled : steps ≡ before ++ step ∷ rest
   pub place : number ≡ length before + 1
   pub world : WorldValue
-  pub led : RangedLead pair (first_world pair) before world
+  pub led : RangedLead pair (initial_world pair) before world
   pub fails : answer_to pair world step ≡ failure
 
 -- all steps lead from the first world to one in which the goal has this answer
 pub record EndsWith (pair : Pair) (steps : List Step) (goal : Holds) : Type 0 where
   pub last : WorldValue
-  pub led : RangedLead pair (first_world pair) steps last
+  pub led : RangedLead pair (initial_world pair) steps last
   pub ends : ranged_goal pair last ≡ goal
 
 -- the verdict on the steps
@@ -51,3 +51,12 @@ IsVerdict pair steps verdict.NotGoal = EndsWith pair steps truth.No
 -- the steps, as names with their arguments, are a plan without bounds
 abbrev pub IsPlanOf : Pair → List Step → Type 0
 IsPlanOf pair steps = IsPlan pair (map (λ step. (step.name, step.args)) steps)
+
+-- the steps are valid, or a number leaves the range at one of them or at the goal
+abbrev pub IsValidOrOver : Verdict → Type 0
+IsValidOrOver verdict.Valid = Unit {0}
+IsValidOrOver (verdict.Blocked number) = ⊥
+IsValidOrOver (verdict.Illegal number) = ⊥
+IsValidOrOver (verdict.Over number) = Unit {0}
+IsValidOrOver verdict.OverGoal = Unit {0}
+IsValidOrOver verdict.NotGoal = ⊥

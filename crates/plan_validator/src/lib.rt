@@ -3,10 +3,8 @@
 
 mod execution;
 mod laws;
-#[cfg(test)]
-mod tests;
 mod verdicts;
 
 pub use execution::validate;
-pub use laws::{plan_has_one_verdict, valid_plans_are_plans};
+pub use laws::{plan_has_one_verdict, plans_are_valid_or_over, valid_plans_are_plans};
 pub use verdicts::Verdict;

@@ -5,5 +5,5 @@ use Rattle.pddl_meaning.proofs.conditions.+definitions.Given as goal
 
 abbrev pub invariant-are_defined-each : goal.invariant-are_defined-each
 invariant-are_defined-each l =
-    list_all (is_defined l.scope.params.now l.scope.args.now l.scope.world.now) (drop l.cond-index l.conds)
-    ≡ list_all (is_defined l.scope.params.now l.scope.args.now l.scope.world.now) l.conds
+    list_all (is_defined l.binding.params.now l.binding.args.now l.binding.world.now) (drop l.cond-index l.conds)
+    ≡ list_all (is_defined l.binding.params.now l.binding.args.now l.binding.world.now) l.conds

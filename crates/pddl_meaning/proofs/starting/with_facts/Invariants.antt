@@ -1,6 +1,6 @@
 use Rattle.std.proofs.Common.{◌≡◌, ◌≤◌, [], drop, length, map}
 use Rattle.std.specs.FinSet as set
-use Rattle.pddl_meaning.specs.Texts.{ground_text}
+use Rattle.pddl_terms.specs.Texts.{ground_text}
 use Rattle.pddl_meaning.proofs.starting.with_facts.Given as goal
 
 abbrev pub invariant-each : goal.invariant-each

@@ -1,7 +1,7 @@
 use Rattle.std.proofs.Common.{◌≡◌, ◌≤◌, [], drop, length, map}
 use Rattle.std.specs.FinMap as finite
 use Rattle.num_ends.specs.Decimal.{trimmed}
-use Rattle.pddl_meaning.specs.Texts.{ground_text}
+use Rattle.pddl_terms.specs.Texts.{ground_text}
 use Rattle.pddl_meaning.proofs.starting.with_values.Given as goal
 
 abbrev pub invariant-each : goal.invariant-each

@@ -1,8 +1,8 @@
 use Rattle.std.proofs.Common.{Option, false, ap, sym}
 use Rattle.std.specs.Option.{option_map_or}
 use Rattle.pddl_terms.specs.declared.names.Typed.{Typed}
-use Rattle.pddl_types.specs.Checks.{objects_of}
-use Rattle.pddl_types.specs.Types.{is_within}
+use Rattle.pddl_types.specs.Pairs.{objects_of}
+use Rattle.type_order.specs.Types.{is_within}
 use Rattle.pddl_meaning.proofs.Places.{not_found, place_within, tested_at}
 use Rattle.pddl_meaning.proofs.steps.fits.Goals as goal
 

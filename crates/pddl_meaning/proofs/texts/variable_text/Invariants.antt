@@ -1,5 +1,5 @@
 use Rattle.std.proofs.Common.{◌≡◌, ◌-◌, drop, length}
-use Rattle.pddl_meaning.specs.Texts.{variable_text}
+use Rattle.pddl_terms.specs.Texts.{variable_text}
 use Rattle.pddl_meaning.proofs.texts.variable_text.Given as goal
 
 abbrev pub invariant-each : goal.invariant-each

@@ -1,5 +1,5 @@
 use Rattle.std.proofs.Common.{◌≡◌}
-use Rattle.pddl_meaning.specs.Computed.{with_values}
+use Rattle.pddl_meaning.specs.internal.Computed.{with_values}
 use Rattle.pddl_meaning.proofs.writes.set_values.Given as goal
 
 abbrev pub invariant-each : goal.invariant-each

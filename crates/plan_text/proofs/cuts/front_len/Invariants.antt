@@ -1,6 +1,6 @@
 use Rattle.std.proofs.Common.{◌≡◌, ◌+◌, drop}
 use Rattle.std.specs.List.{prefix_len}
-use Rattle.plan_text.specs.Reading.{is_of}
+use Rattle.plan_text.specs.internal.Reading.{is_of}
 use Rattle.plan_text.proofs.cuts.front_len.Given as goal
 
 abbrev pub invariant-loop-at : goal.invariant-loop-at

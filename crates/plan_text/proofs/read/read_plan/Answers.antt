@@ -1,6 +1,6 @@
 use Rattle.std.specs.Prelude.{option_map}
 use Rattle.plan_text.specs.Plans.{lines_of}
-use Rattle.plan_text.specs.Reading.{lines_left}
+use Rattle.plan_text.specs.internal.Reading.{lines_left}
 use Rattle.plan_text.proofs.Answered.{reads_here, bad_here}
 use Rattle.plan_text.proofs.read.read_plan.Goals as goal
 

@@ -1,7 +1,7 @@
 use Rattle.std.proofs.Common.{◌≡◌, ◌+◌, ◌≤◌, ◌^◌, []}
 use Rattle.std.specs.Prelude.{option_map}
 use Rattle.plan_text.specs.Plans.{lines_of}
-use Rattle.plan_text.specs.Reading.{lines_left, read_from, size_left}
+use Rattle.plan_text.specs.internal.Reading.{lines_left, read_from, size_left}
 use Rattle.plan_text.proofs.read.read_plan.Given as goal
 
 abbrev pub invariant-loop-left : goal.invariant-loop-left

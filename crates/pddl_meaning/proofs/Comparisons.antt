@@ -1,7 +1,7 @@
--- Induction over conditions; what a test of all comparisons gives of another, and what truth gives of the literals.
+-- What a test of all comparisons of a condition gives of another, and what truth gives of the literals.
 use Rattle.std.proofs.Common.{◌≡◌, ◌&&◌, ◌||◌, ℕ, Bool, true, false, not, List, [], ◌∷◌, Option, Some, None, map, All, refl, sym, ap, subst, ◌∙◌, is_some}
 use Rattle.std.specs.List.{list_all, list_any}
-use Rattle.std.proofs.lemmas.List.Elements.{All-nil, All-cons, All-head, All-tail}
+use Rattle.std.proofs.lemmas.List.Elements.{All-head, All-tail}
 use Rattle.num_ends.specs.Decimal.{Decimal}
 use Rattle.pddl_terms.specs.declared.names.Arg.{Arg}
 use Rattle.pddl_terms.specs.declared.names.Atom.{Atom}
@@ -9,43 +9,17 @@ use Rattle.pddl_terms.specs.declared.names.Typed.{Typed}
 use Rattle.pddl_terms.specs.declared.expressions.Op.{Op}
 use Rattle.pddl_terms.specs.declared.expressions.Expr.{Expr}
 use Rattle.pddl_terms.specs.declared.conditions.Rel.{Rel}
-use Rattle.pddl_terms.specs.declared.conditions.Cond.{Cond, Cond-F, ind-Cond, map-Cond, roll-Cond}
+use Rattle.pddl_terms.specs.declared.conditions.Cond.{Cond}
 use Rattle.pddl_terms.specs.declared.conditions.Cond.TheVariants as condition
 use Rattle.pddl_meaning.specs.Worlds.{WorldValue}
-use Rattle.pddl_meaning.specs.Values.{combined, in_bounds, operands_fit, ranged_value, reads_defined, value_of}
+use Rattle.num_ends.specs.Range.{operands_fit}
+use Rattle.pddl_meaning.specs.Values.{combined, in_bounds, ranged_value, reads_defined, value_of}
 use Rattle.pddl_meaning.specs.Truth.{both, comparisons_layer, each_comparison, is_defined, is_in_bounds, is_true, is_valued, literals_true}
-use Rattle.pddl_meaning.proofs.Folds.{induct_expression, fold-And, fold-Or, fold-Not, fold-Imply, fold-Fact, fold-Same, fold-Cmp, list_all-map}
+use Rattle.pddl_terms.proofs.Induction.{Inductive, induct_condition, induct_expression}
+use Rattle.pddl_meaning.proofs.Folds.{fold-And, fold-Or, fold-Not, fold-Imply, fold-Fact, fold-Same, fold-Cmp, list_all-map}
 use Rattle.pddl_meaning.proofs.Layers.{reads_of_Lit, reads_of_Op, reads_of_Read, true_And, true_Fact, true_Imply, true_Not, true_Or, true_Same, value_of_Op, value_of_Read}
 use Rattle.pddl_meaning.proofs.Conjuncts.{literals_And, literals_Cmp, literals_Fact, literals_Imply, literals_Not, literals_Or, literals_Same}
 use Rattle.pddl_meaning.proofs.Bounds.{bounded_some, both_true, true_both, value_bounded}
-
--- ---- induction
-
-All-beside : {X : Type 0} (P : X → Type 0) → (es : List ((x : X) × P x)) → All P (map (λ e. e.0) es)
-All-beside P [] = All-nil P
-All-beside P (e ∷ es) = All-cons P e.0 (map (λ e. e.0) es) e.1 (All-beside P es)
-
--- what holds of a condition where it holds of its parts
-pub record Inductive (P : Cond → Type 0) : Type 0 where
-  pub conjunction : (cs : List Cond) → All P cs → P (condition.And cs)
-  pub disjunction : (cs : List Cond) → All P cs → P (condition.Or cs)
-  pub negation : (c : Cond) → P c → P (condition.Not c)
-  pub implication : (b c : Cond) → P b → P c → P (condition.Imply b c)
-  pub fact : (a : Atom) → P (condition.Fact a)
-  pub equal : (a b : Arg) → P (condition.Same a b)
-  pub compare : (r : Rel) (e f : Expr) → P (condition.Cmp r e f)
-
-induct_layer : (P : Cond → Type 0) → Inductive P → (z : Cond-F ((x : Cond) × P x)) → P (roll-Cond (map-Cond _ _ (λ e. e.0) z))
-induct_layer P step (Cond-F.And cs) = subst P (sym (condition.rolls-And (map (λ e. e.0) cs))) (step.conjunction (map (λ e. e.0) cs) (All-beside P cs))
-induct_layer P step (Cond-F.Or cs) = subst P (sym (condition.rolls-Or (map (λ e. e.0) cs))) (step.disjunction (map (λ e. e.0) cs) (All-beside P cs))
-induct_layer P step (Cond-F.Not c) = subst P (sym (condition.rolls-Not c.0)) (step.negation c.0 c.1)
-induct_layer P step (Cond-F.Imply b c) = subst P (sym (condition.rolls-Imply b.0 c.0)) (step.implication b.0 c.0 b.1 c.1)
-induct_layer P step (Cond-F.Fact a) = subst P (sym (condition.rolls-Fact a)) (step.fact a)
-induct_layer P step (Cond-F.Same a b) = subst P (sym (condition.rolls-Same a b)) (step.equal a b)
-induct_layer P step (Cond-F.Cmp r e f) = subst P (sym (condition.rolls-Cmp r e f)) (step.compare r e f)
-
-pub induct_condition : (P : Cond → Type 0) → Inductive P → (c : Cond) → P c
-induct_condition P step = ind-Cond P (λ x y is. subst (λ (z : Cond-F Cond). P (roll-Cond z)) is (induct_layer P step y))
 
 -- ---- tests of comparisons
 

@@ -8,7 +8,8 @@ use Rattle.pddl_terms.specs.declared.conditions.Cond.{Cond}
 use Rattle.pddl_meaning.specs.declared.answers.Holds.{Holds}
 use Rattle.pddl_meaning.specs.declared.answers.Holds.TheVariants.{Yes, No, Over}
 use Rattle.pddl_meaning.specs.Worlds.{WorldValue}
-use Rattle.pddl_meaning.specs.Values.{ranged_value, operands_fit}
+use Rattle.num_ends.specs.Range.{operands_fit}
+use Rattle.pddl_meaning.specs.Values.{ranged_value}
 use Rattle.pddl_meaning.specs.Truth.{both, stands}
 
 abbrev pub truth_of : Bool → Holds
@@ -33,11 +34,11 @@ either_of Yes Over = Over
 either_of Yes Yes = Yes
 either_of Yes No = Yes
 
-abbrev pub all_of : (Cond → Holds) → Holds → List Cond → Holds
-all_of truth done cs = fold (λ answer c. both_of answer (truth c)) done cs
+abbrev pub truth_of_all : (Cond → Holds) → Holds → List Cond → Holds
+truth_of_all truth done cs = fold (λ answer c. both_of answer (truth c)) done cs
 
-abbrev pub any_of : (Cond → Holds) → Holds → List Cond → Holds
-any_of truth done cs = fold (λ answer c. either_of answer (truth c)) done cs
+abbrev pub truth_of_any : (Cond → Holds) → Holds → List Cond → Holds
+truth_of_any truth done cs = fold (λ answer c. either_of answer (truth c)) done cs
 
 -- two values compared, within the range
 abbrev pub compared : Rel → Decimal → Decimal → Holds

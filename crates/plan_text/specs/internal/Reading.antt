@@ -6,9 +6,8 @@ use Rattle.num_ends.specs.Names.{is_digit, is_name}
 use Rattle.plan_text.specs.declared.cuts.Kind.{Kind}
 use Rattle.plan_text.specs.declared.cuts.Kind.TheVariants as kind
 use Rattle.plan_text.specs.declared.step.Step.{Step}
-use Rattle.plan_text.specs.declared.step.PlanFault.{PlanFault}
-use Rattle.plan_text.specs.declared.step.PlanFault.TheVariants as faults
-use Rattle.plan_text.specs.Plans.{is_space, folded, words_of, lines_of, ReadsAs, IsFirstBad}
+use Rattle.plan_text.specs.Plans.{is_space, words_of, lines_of}
+use Rattle.num_ends.specs.Names.{folded}
 
 -- ---- cuts
 
@@ -84,8 +83,8 @@ abbrev pub step_of : List (List ℕ) → Option Step
 step_of [] = None
 step_of (w ∷ ws) = if is_name w && list_all is_name ws then Some (record { name = w; args = ws }) else None
 
-abbrev pub names_of : List ℕ → List (List ℕ)
-names_of text = map (map folded) (words_of text)
+abbrev pub folded_words : List ℕ → List (List ℕ)
+folded_words text = map (map folded) (words_of text)
 
 -- a word before others, unless it is empty
 abbrev pub with_first : List ℕ → List (List ℕ) → List (List ℕ)
@@ -106,7 +105,7 @@ cut_at byte text =
 
 -- the step of what stands before, in and behind round brackets
 abbrev pub step_between : List ℕ → List ℕ → List ℕ → Option Step
-step_between before inside behind = if may_precede before && may_follow behind then step_of (names_of inside) else None
+step_between before inside behind = if may_precede before && may_follow behind then step_of (folded_words inside) else None
 
 abbrev pub step_behind : List ℕ → List ℕ → Option Step
 step_behind before rest = option_map_or (λ cut. step_between before cut.0 cut.1) (cut_at 41 rest) None
@@ -134,9 +133,3 @@ abbrev pub read_from : ℕ → List Step → List (List ℕ) → Result (List St
 read_from number steps [] = Ok steps
 read_from number steps (line ∷ lines) =
     option_map_or (λ more. read_from (number + 1) (steps ++ more) lines) (steps_in line) (Err number)
-
--- what the reading of a text answers
-abbrev pub IsAnswer : List ℕ → Result (List Step) PlanFault → Type 0
-IsAnswer text (Ok steps) = ReadsAs text steps
-IsAnswer text (Err (faults.BadLine number)) = IsFirstBad text number
-IsAnswer text (Err faults.NoMemory) = Unit {0}

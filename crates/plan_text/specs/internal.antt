@@ -1,0 +1,2 @@
+-- What the contracts of this crate's private functions speak of. No public contract cites it.
+pub mod Reading
