@@ -1,5 +1,5 @@
 pub mod Accepted
-pub mod Ends
-pub mod FewSteps
-pub mod Lifted
-pub mod LeastBox
+pub mod Answered
+pub mod Endings
+pub mod Known
+pub mod Laws

@@ -1,4 +1,3 @@
 pub mod Answers
-pub mod Jobs
-pub mod Reading
-pub mod Written
+pub mod Commands
+pub mod Ends

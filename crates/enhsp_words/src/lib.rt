@@ -5,8 +5,6 @@ mod command_line;
 mod job;
 mod options;
 mod read;
-#[cfg(test)]
-mod tests;
 mod values;
 
 pub use job::{Command, Job, WordsFault};

@@ -7,9 +7,9 @@ use Rattle.std.proofs.lemmas.List.Elements.{All-cons, All-nil}
 use Rattle.std.proofs.lemmas.List.Kept.{AllPairs-cons}
 use Rattle.std.proofs.lemmas.Slice.Eq.{bytes_eq-Decides}
 use Rattle.pddl_terms.specs.declared.names.Name.{Name}
-use Rattle.pddl_types.specs.Numberings.{place_in}
+use Rattle.name_table.specs.Tables.{place_in}
 use Rattle.pddl_types.specs.WellFormed.{AreDistinct, Stands}
-use Rattle.pddl_types.proofs.Numbered.{place_within}
+use Rattle.name_table.proofs.Numbered.{place_within}
 use Rattle.plain_form.specs.Tasks.{in_brackets, number_of}
 
 -- ---- texts

@@ -17,11 +17,14 @@ use Rattle.pddl_terms.specs.declared.actions.Schema.{Schema}
 use Rattle.pddl_types.specs.declared.faults.Side.{Side}
 use Rattle.pddl_types.specs.declared.faults.Side.TheVariants as side
 use Rattle.pddl_types.specs.declared.pairs.Pair.{Pair}
-use Rattle.pddl_types.specs.Checks.{changed_by, first_sig, functions_first, heads_of, sig_of}
-use Rattle.pddl_types.specs.Numberings.{place_in}
-use Rattle.pddl_types.specs.WellFormed.{Each, Parts, Reads, Use, WellFormed, all_read, fluent_changed, joined, parts_layer, parts_of, reads_layer as expression_reads, reads_in as all_reads, schema_uses, uses_in}
+use Rattle.pddl_types.specs.Pairs.{changed_function as changed_by, heads_of}
+use Rattle.pddl_types.specs.Meanings.{first_sig, functions_first, sig_of}
+use Rattle.name_table.specs.Tables.{place_in}
+use Rattle.pddl_types.specs.Contents.{Parts, Reads, Use, all_read, fluent_changed, joined_parts as joined, condition_parts_layer as parts_layer, condition_parts as parts_of, expression_reads_layer as expression_reads, expression_reads as all_reads, schema_uses, uses_in}
+use Rattle.pddl_types.specs.WellFormed.{Each, WellFormed}
 use Rattle.pddl_types.proofs.Empties.{each_append, each_flat, each_four_append, each_map}
-use Rattle.pddl_types.proofs.Numbered.{at_place}
+use Rattle.pddl_types.proofs.FaultlessWhole.{known_signatures}
+use Rattle.name_table.proofs.Numbered.{at_place}
 use Rattle.plain_form.specs.Plain.{compared_in, compared_layer, read_in, read_layer, reads_in, reads_layer}
 use Rattle.plain_form.specs.Tasks.{functions_of}
 use Rattle.plain_form.proofs.Apart.{is_declared}
@@ -129,7 +132,7 @@ module _ (p : Pair) where
 
   uses_parts : WellFormed p → Each IsUsed (flat_map schema_uses p.domain.schemas) × Each IsUsed (uses_in side.Problem [] p.problem.goal)
   uses_parts formed =
-      let parts = (each_four_append IsUsed (flat_map schema_uses p.domain.schemas) _ _ (uses_in side.Problem [] p.problem.goal)).0 formed.heads_known in
+      let parts = (each_four_append IsUsed (flat_map schema_uses p.domain.schemas) _ _ (uses_in side.Problem [] p.problem.goal)).0 (known_signatures p formed) in
       (parts.0, parts.3)
 
   each_schema : (ss : List Schema) → Each (λ s. Each IsUsed (schema_uses s)) ss → All IsDeclaredAction ss

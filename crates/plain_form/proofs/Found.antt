@@ -3,9 +3,9 @@ use Rattle.std.proofs.Common.{◌≡◌, ◌<◌, ℕ, length, arith, List, Opti
 use Rattle.std.proofs.lemmas.List.{length-map}
 use Rattle.pddl_terms.specs.declared.names.Name.{Name}
 use Rattle.pddl_terms.specs.declared.names.Sig.{Sig}
-use Rattle.pddl_types.specs.Checks.{heads_of}
-use Rattle.pddl_types.specs.Numberings.{number_in, numbered, place_in}
-use Rattle.pddl_types.proofs.Numbered.{number_is_place, place_within}
+use Rattle.pddl_types.specs.Pairs.{heads_of}
+use Rattle.name_table.specs.Tables.{table_number as number_in, numbered, place_in}
+use Rattle.name_table.proofs.Numbered.{number_is_place, place_within}
 
 pub number_found : (text : List ℕ) (names : List Name) (numbers : List (List ℕ × ℕ)) (r : Option ℕ) → numbers ≡ numbered names → r ≡ number_in text numbers
     → r ≡ place_in text names

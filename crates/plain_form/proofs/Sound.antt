@@ -25,8 +25,9 @@ use Rattle.pddl_terms.specs.declared.actions.Assign.TheVariants as assign
 use Rattle.pddl_terms.specs.declared.actions.Effect.{Effect}
 use Rattle.pddl_terms.specs.declared.actions.Effect.TheVariants as effect
 use Rattle.pddl_terms.specs.declared.actions.Schema.{Schema}
+use Rattle.pddl_terms.specs.Readable.{IsReadable, is_short_name}
 use Rattle.pddl_types.specs.declared.pairs.Pair.{Pair}
-use Rattle.pddl_types.specs.Checks.{changed_by, heads_of}
+use Rattle.pddl_types.specs.Pairs.{changed_function as changed_by, heads_of}
 use Rattle.pddl_types.specs.WellFormed.{AreDistinct, Stands, WellFormed, texts_of}
 use Rattle.pddl_types.proofs.Distinct.{texts_append}
 use Rattle.pddl_types.proofs.Empties.{each_append}
@@ -209,8 +210,10 @@ good_actions p plain formed k d lt =
     let there = schemas_declared p formed k d lt in
     record { condition = plain.plain_preconditions k d lt; effects = plain.plain_effects k d lt; one_each = plain.one_change_each k d lt; reads = there.0; changes = there.1 }
 
-ground_text : (name : List ℕ) → IsTrue (is_name name) → IsGroundText (in_brackets name)
-ground_text name h = record { name = name; objects = []; spelled = refl; a_name = h; object_names = refl }
+-- the text of a name is one of a fluent or an action
+ground_text : (name : List ℕ) → IsTrue (is_short_name name) → IsGroundText (in_brackets name)
+ground_text name h =
+    record { name = name; objects = []; spelled = refl; a_name = first_true (is_name name) _ h; object_names = refl }
 
 whole_value : (values : List (Atom × Decimal)) (text : List ℕ) → has_whole_value values text ≡ true → (value_of values text).p ≡ 0
 whole_value values text h = cases (entry_of values text) h
@@ -222,8 +225,8 @@ whole_value values text h = cases (entry_of values text) h
 same_count : (p : Pair) → length (functions_of p) ≡ length p.domain.functions
 same_count p = length-map p.domain.functions (λ s. s.name)
 
-pub valid_task : (p : Pair) → IsPlainPair p → WellFormed p → IsValid (task_of p)
-valid_task p plain formed =
+pub valid_task : (p : Pair) → IsPlainPair p → WellFormed p → IsReadable p.domain p.problem → IsValid (task_of p)
+valid_task p plain formed readable =
     let functions = functions_of p in
     let count = same_count p in
     let fluents : length (map (λ (f : Sig). in_brackets f.name.text) p.domain.functions) ≡ length functions = length-map p.domain.functions (λ f. in_brackets f.name.text) ∙ sym count in
@@ -244,8 +247,8 @@ valid_task p plain formed =
       known_goal = subst (λ n. is_known_condition 0 n (condition_of functions p.problem.goal) ≡ true) (sym fluents) (good_condition functions p.problem.goal plain.plain_goal (goal_declared p formed)).known;
       fact_texts = All-nil IsGroundText;
       fluent_texts =
-          All-map IsGroundText (λ f. in_brackets f.name.text) p.domain.functions (λ k d lt. ground_text (slice_index_or p.domain.functions k d).name.text (plain.function_names k d lt));
-      action_texts = All-map (λ a. IsGroundText a.name) (action_of functions) p.domain.schemas (λ k d lt. ground_text (slice_index_or p.domain.schemas k d).name.text (plain.action_names k d lt));
+          All-map IsGroundText (λ f. in_brackets f.name.text) p.domain.functions (λ k d lt. ground_text (slice_index_or p.domain.functions k d).name.text (readable.domain.functions k d lt).name);
+      action_texts = All-map (λ a. IsGroundText a.name) (action_of functions) p.domain.schemas (λ k d lt. ground_text (slice_index_or p.domain.schemas k d).name.text (readable.domain.schemas k d lt).name);
       apart =
           texts_apart (λ (f : Sig). f.name.text) (λ f. in_brackets f.name.text) (λ t. t) (λ f. refl) p.domain.functions
           (subst AreDistinct (map-map (λ n. n.text) (λ s. s.name) p.domain.functions) (distinct_behind (texts_of (heads_of p.domain.predicates)) (texts_of functions) heads));
@@ -267,8 +270,8 @@ plain_task p plain formed =
       a_count_each = length-map (task_of p).fluents (λ _. 0);
     }
 
-pub valid_answer : (p : Pair) (raw : RawTask) → raw ≡ task_of p → passes p ≡ true → WellFormed p → IsValid raw
-valid_answer p raw e h formed = subst IsValid (sym e) (valid_task p (plain_pair p h) formed)
+pub valid_answer : (p : Pair) (raw : RawTask) → raw ≡ task_of p → passes p ≡ true → WellFormed p → IsReadable p.domain p.problem → IsValid raw
+valid_answer p raw e h formed readable = subst IsValid (sym e) (valid_task p (plain_pair p h) formed readable)
 
 pub plain_answer : (p : Pair) (raw : RawTask) → raw ≡ task_of p → passes p ≡ true → WellFormed p → IsPlain raw (map (λ _. 0) raw.fluents)
 plain_answer p raw e h formed = subst (λ r. IsPlain r (map (λ _. 0) r.fluents)) (sym e) (plain_task p (plain_pair p h) formed)

@@ -5,18 +5,18 @@ use Rattle.std.specs.List.{list_all}
 use Rattle.std.proofs.lemmas.Bool.{eqb-true, le-leb, leb-true}
 use Rattle.std.proofs.lemmas.List.Sums.{AllPass-from_list_all, list_all-from_AllPass}
 use Rattle.num_ends.specs.Decimal.{Decimal}
-use Rattle.num_ends.specs.Names.{is_name}
 use Rattle.pddl_terms.specs.declared.names.Name.{Name}
 use Rattle.pddl_terms.specs.declared.names.Atom.{Atom}
 use Rattle.pddl_terms.specs.declared.names.Sig.{Sig}
 use Rattle.pddl_terms.specs.declared.actions.Schema.{Schema}
 use Rattle.pddl_types.specs.declared.pairs.Pair.{Pair}
-use Rattle.pddl_types.specs.Checks.{changed_by, is_among, with_text}
-use Rattle.pddl_types.specs.Numberings.{place_in}
+use Rattle.name_table.specs.Tables.{is_text_among as is_among, with_text}
+use Rattle.pddl_types.specs.Pairs.{changed_function as changed_by}
+use Rattle.name_table.specs.Tables.{place_in}
 use Rattle.pddl_types.specs.WellFormed.{AreDistinct, texts_of}
 use Rattle.pddl_types.proofs.Distinct.{FreshTexts, bytes_decide, fresh_distinct}
 use Rattle.pddl_types.proofs.Empties.{same, chain, both}
-use Rattle.pddl_types.proofs.Numbered.{some_place}
+use Rattle.name_table.proofs.Numbered.{some_place}
 use Rattle.plain_form.specs.Plain.{IsPlainPair, has_whole_value, is_plain, is_plain_effect, reads_of}
 use Rattle.plain_form.specs.Tests.{are_new, is_bare, passes, passes_as_action, passes_as_function}
 
@@ -55,7 +55,6 @@ new_distinct ns = chain (new_fresh [] ns) (fresh_distinct bytes_eq bytes_decide 
 
 record IsPlainAction (s : Schema) : Type 0 where
   bare : s.params ≡ []
-  a_name : IsTrue (is_name s.name.text)
   condition : IsTrue (is_plain s.pre)
   effects : IsTrue (list_all is_plain_effect s.effects)
   one_each : AreDistinct (texts_of (flat_map changed_by s.effects))
@@ -63,14 +62,13 @@ record IsPlainAction (s : Schema) : Type 0 where
 plain_action : (s : Schema) → (passes_as_action s ≡ true) ↔ IsPlainAction s
 unfolding passes_as_action
 plain_action s =
-    let parts = chain (and_both _ _) (both (chain (and_both _ _) (both (chain (and_both _ _) (both (chain (and_both _ _) (both (no_items s.params) same)) same)) same)) (new_distinct (flat_map changed_by s.effects))) in (
-      λ h. (let a = parts.0 h in record { bare = a.0.0.0.0; a_name = a.0.0.0.1; condition = a.0.0.1; effects = a.0.1; one_each = a.1 }),
-      λ a. parts.1 ((((a.bare, a.a_name), a.condition), a.effects), a.one_each),
+    let parts = chain (and_both _ _) (both (chain (and_both _ _) (both (chain (and_both _ _) (both (no_items s.params) same)) same)) (new_distinct (flat_map changed_by s.effects))) in (
+      λ h. (let a = parts.0 h in record { bare = a.0.0.0; condition = a.0.0.1; effects = a.0.1; one_each = a.1 }),
+      λ a. parts.1 (((a.bare, a.condition), a.effects), a.one_each),
     )
 
 record IsPlainFunction (values : List (Atom × Decimal)) (reads : List Name) (f : Sig) : Type 0 where
   bare : f.params ≡ []
-  a_name : IsTrue (is_name f.name.text)
   valued : IsTrue (has_whole_value values f.name.text)
   used : IsTrue (is_among f.name.text (texts_of reads))
 
@@ -78,9 +76,9 @@ plain_function : (values : List (Atom × Decimal)) (reads : List Name) (f : Sig)
 unfolding passes_as_function
 plain_function values reads f =
     let read : is_some (place_in f.name.text reads) ≡ is_among f.name.text (texts_of reads) = some_place f.name.text reads in
-    let parts = chain (and_both _ _) (both (chain (and_both _ _) (both (chain (and_both _ _) (both (no_items f.params) same)) same)) same) in (
-      λ h. (let a = parts.0 h in record { bare = a.0.0.0; a_name = a.0.0.1; valued = a.0.1; used = sym read ∙ a.1 }),
-      λ a. parts.1 (((a.bare, a.a_name), a.valued), read ∙ a.used),
+    let parts = chain (and_both _ _) (both (chain (and_both _ _) (both (no_items f.params) same)) same) in (
+      λ h. (let a = parts.0 h in record { bare = a.0.0; valued = a.0.1; used = sym read ∙ a.1 }),
+      λ a. parts.1 ((a.bare, a.valued), read ∙ a.used),
     )
 
 -- ---- the whole
@@ -121,8 +119,6 @@ tested p = (
         one_change_each = λ k d lt. (a.actions k d lt).one_each;
         valued = λ k d lt. (a.functions k d lt).valued;
         used = λ k d lt. (a.functions k d lt).used;
-        function_names = λ k d lt. (a.functions k d lt).a_name;
-        action_names = λ k d lt. (a.actions k d lt).a_name;
         few_functions = a.few_functions;
         few_actions = a.few_actions;
       }
@@ -131,9 +127,9 @@ tested p = (
     few_functions = w.few_functions;
     few_actions = w.few_actions;
     predicates = w.bare_predicates;
-    actions = λ k d lt. record { bare = w.bare_actions k d lt; a_name = w.action_names k d lt; condition = w.plain_preconditions k d lt; effects = w.plain_effects k d lt; one_each = w.one_change_each k d lt };
+    actions = λ k d lt. record { bare = w.bare_actions k d lt; condition = w.plain_preconditions k d lt; effects = w.plain_effects k d lt; one_each = w.one_change_each k d lt };
     goal = w.plain_goal;
-    functions = λ k d lt. record { bare = w.bare_functions k d lt; a_name = w.function_names k d lt; valued = w.valued k d lt; used = w.used k d lt };
+    functions = λ k d lt. record { bare = w.bare_functions k d lt; valued = w.valued k d lt; used = w.used k d lt };
   }),
 )
 

@@ -3,7 +3,6 @@ use Rattle.std.specs.Prelude.{ℕ, ◌≡◌, ◌≤◌, ◌==◌, ◌++◌, ◌
 use Rattle.std.specs.Option.{option_map_or}
 use Rattle.std.specs.List.{list_all}
 use Rattle.num_ends.specs.Decimal.{Decimal}
-use Rattle.num_ends.specs.Names.{is_name}
 use Rattle.pddl_terms.specs.declared.names.Name.{Name}
 use Rattle.pddl_terms.specs.declared.names.Atom.{Atom}
 use Rattle.pddl_terms.specs.declared.expressions.Expr.{Expr, Expr-F}
@@ -17,7 +16,8 @@ use Rattle.pddl_terms.specs.declared.actions.Assign.TheVariants as assign
 use Rattle.pddl_terms.specs.declared.actions.Effect.{Effect}
 use Rattle.pddl_terms.specs.declared.actions.Effect.TheVariants as effect
 use Rattle.pddl_types.specs.declared.pairs.Pair.{Pair}
-use Rattle.pddl_types.specs.Checks.{changed_by, is_among}
+use Rattle.name_table.specs.Tables.{is_text_among as is_among}
+use Rattle.pddl_types.specs.Pairs.{changed_function as changed_by}
 use Rattle.pddl_types.specs.WellFormed.{AreDistinct, texts_of}
 
 -- ---- expressions
@@ -138,7 +138,5 @@ pub record IsPlainPair (p : Pair) : Type 0 where
   pub one_change_each : All (λ s. AreDistinct (texts_of (flat_map changed_by s.effects))) p.domain.schemas
   pub valued : All (λ f. IsTrue (has_whole_value p.problem.values f.name.text)) p.domain.functions
   pub used : All (λ f. IsTrue (is_among f.name.text (texts_of (reads_of p)))) p.domain.functions
-  pub function_names : All (λ f. IsTrue (is_name f.name.text)) p.domain.functions
-  pub action_names : All (λ s. IsTrue (is_name s.name.text)) p.domain.schemas
   pub few_functions : length p.domain.functions ≤ 256
   pub few_actions : length p.domain.schemas ≤ 20000

@@ -19,8 +19,8 @@ use Rattle.pddl_terms.specs.declared.actions.Effect.{Effect}
 use Rattle.pddl_terms.specs.declared.actions.Effect.TheVariants as effect
 use Rattle.pddl_terms.specs.declared.actions.Schema.{Schema}
 use Rattle.pddl_types.specs.declared.pairs.Pair.{Pair}
-use Rattle.pddl_types.specs.Checks.{heads_of}
-use Rattle.pddl_types.specs.Numberings.{place_in}
+use Rattle.pddl_types.specs.Pairs.{heads_of}
+use Rattle.name_table.specs.Tables.{place_in}
 use Rattle.ground_task.specs.declared.raw.Rel.{Rel as GroundRel}
 use Rattle.ground_task.specs.declared.raw.Rel.TheVariants as ground_rel
 use Rattle.ground_task.specs.declared.raw.GExpr.TheVariants.{Const, Read}

@@ -2,8 +2,8 @@
 
 ghost use Rattle.std.specs.Prelude.{◌≡◌, ◌≤◌, ◌<◌, IfOk, IfSome, length, option_map};
 ghost use Rattle.std.specs.Option.{option_copied};
-ghost use Rattle.pddl_types.specs.Checks.{heads_of};
-ghost use Rattle.pddl_types.specs.Numberings.{place_in};
+ghost use Rattle.pddl_types.specs.Pairs.{heads_of};
+ghost use Rattle.name_table.specs.Tables.{place_in};
 ghost use Rattle.plain_form.specs.Plain.{entry_of};
 
 use crate::lists::{heads_of, valued_heads};
@@ -24,8 +24,8 @@ pub(crate) struct Functions<'a> {
 impl<'a> Model for Functions<'a> {
     ghost use Rattle.std.specs.Prelude.{◌≡◌, ◌≤◌, List, length};
     ghost use Rattle.pddl_terms.specs.declared.names.Name.{Name};
-    ghost use Rattle.pddl_types.specs.Checks.{heads_of};
-    ghost use Rattle.pddl_types.specs.Numberings.{numbered};
+    ghost use Rattle.pddl_types.specs.Pairs.{heads_of};
+    ghost use Rattle.name_table.specs.Tables.{numbered};
 
     ghost Value = { List Name };
 
@@ -65,7 +65,7 @@ impl<'a> Model for Values<'a> {
     ghost use Rattle.std.specs.Prelude.{◌≡◌, List, map};
     ghost use Rattle.num_ends.specs.Decimal.{Decimal};
     ghost use Rattle.pddl_terms.specs.declared.names.Atom.{Atom};
-    ghost use Rattle.pddl_types.specs.Numberings.{numbered};
+    ghost use Rattle.name_table.specs.Tables.{numbered};
 
     ghost Value = { List (Atom × Decimal) };
 

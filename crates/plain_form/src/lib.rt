@@ -5,13 +5,9 @@ mod build;
 mod forms;
 mod functions;
 mod lists;
-mod names;
 mod numbers;
 mod plain;
 mod seen;
 mod task;
 
 pub use task::plain_task;
-
-#[cfg(test)]
-mod tests;

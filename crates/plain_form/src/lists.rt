@@ -1,7 +1,7 @@
 //! The names of functions, where they are declared, valued, changed and read.
 
 ghost use Rattle.std.specs.Prelude.{◌≡◌, ◌++◌, IfOk, OnOk, flat_map, map};
-ghost use Rattle.pddl_types.specs.Checks.{changed_by, heads_of};
+ghost use Rattle.pddl_types.specs.Pairs.{changed_function as changed_by, heads_of};
 ghost use Rattle.plain_form.specs.Plain.{compared_in, read_in, reads_in, reads_of};
 
 use num_ends::{Dec, NoMemory};

@@ -1,7 +1,7 @@
 //! Names with the numbers of their first places, found by hash.
 
 ghost use Rattle.std.specs.Prelude.{◌≡◌, [], IfOk, OnOk, map};
-ghost use Rattle.pddl_types.specs.Numberings.{number_in, numbered, numbered_from, with_number};
+ghost use Rattle.name_table.specs.Tables.{table_number as number_in, numbered, numbered_from, with_number};
 
 use indexmap::IndexMap;
 use num_ends::NoMemory;

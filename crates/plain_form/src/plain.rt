@@ -2,8 +2,8 @@
 
 ghost use Rattle.std.specs.Prelude.{◌≡◌, ◌≤◌, ◌&&◌, List, [], IfOk, flat_map, is_some, length, nat_le};
 ghost use Rattle.std.specs.List.{list_all};
-ghost use Rattle.pddl_types.specs.Checks.{changed_by};
-ghost use Rattle.pddl_types.specs.Numberings.{numbered, place_in};
+ghost use Rattle.pddl_types.specs.Pairs.{changed_function as changed_by};
+ghost use Rattle.name_table.specs.Tables.{numbered, place_in};
 ghost use Rattle.pddl_terms.specs.declared.names.Name.{Name};
 ghost use Rattle.plain_form.specs.Plain.{has_whole_value, reads_of};
 ghost use Rattle.plain_form.specs.Tests.{are_new, is_bare, passes, passes_as_action, passes_as_function};
@@ -11,7 +11,6 @@ ghost use Rattle.plain_form.specs.Tests.{are_new, is_bare, passes, passes_as_act
 use crate::forms::{are_plain_effects, is_plain};
 use crate::functions::Values;
 use crate::lists::{changed_heads, reads_of};
-use crate::names::is_name;
 use crate::numbers::{Numbers, numbered};
 use crate::seen::are_distinct;
 use num_ends::NoMemory;
@@ -31,9 +30,6 @@ fn passes_as_action(alloc: Global, schema: &Schema) -> Result<bool, NoMemory>
     ensures { IfOk result (λ b. b ≡ passes_as_action schema.now) }
 {
     if schema.params.len() != 0 {
-        return Ok(false);
-    }
-    if !is_name(schema.name.text.as_slice()) {
         return Ok(false);
     }
     if !is_plain(&schema.pre) {
@@ -76,7 +72,7 @@ fn passes_as_function(values: &Values, reads: &Numbers, sig: &Sig) -> bool
     ensures { (names : List Name) → reads.now ≡ numbered names → result ≡ passes_as_function values.now names sig.now }
 {
     let name = sig.name.text.as_slice();
-    sig.params.len() == 0 && is_name(name) && has_whole_value(values, name) && is_there(reads, name)
+    sig.params.len() == 0 && has_whole_value(values, name) && is_there(reads, name)
 }
 
 fn pass_as_functions(values: &Values, reads: &Numbers, sigs: &[Sig]) -> bool

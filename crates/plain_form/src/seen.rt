@@ -1,7 +1,7 @@
 //! The names that stand before, found by hash.
 
 ghost use Rattle.std.specs.Prelude.{◌≡◌, [], IfOk, OnOk, map, not};
-ghost use Rattle.pddl_types.specs.Checks.{is_among, with_text};
+ghost use Rattle.name_table.specs.Tables.{is_text_among as is_among, with_text};
 ghost use Rattle.plain_form.specs.Tests.{are_new};
 
 use indexmap::IndexSet;

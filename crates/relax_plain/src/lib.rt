@@ -6,6 +6,3 @@ mod rounds;
 mod widen;
 
 pub use rounds::least_box;
-
-#[cfg(test)]
-mod tests;

@@ -1,6 +1,6 @@
 use Rattle.std.proofs.Common.{◌≡◌, ◌++◌, drop, map}
 use Rattle.std.specs.Prelude.{flat_map}
-use Rattle.pddl_types.specs.Checks.{changed_by}
+use Rattle.pddl_types.specs.Pairs.{changed_function as changed_by}
 use Rattle.plain_form.proofs.lists.changed_heads.Given as goal
 
 abbrev pub invariant-each : goal.invariant-each

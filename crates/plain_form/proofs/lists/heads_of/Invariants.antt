@@ -1,5 +1,5 @@
 use Rattle.std.proofs.Common.{◌≡◌, ◌++◌, drop, map}
-use Rattle.pddl_types.specs.Checks.{heads_of}
+use Rattle.pddl_types.specs.Pairs.{heads_of}
 use Rattle.plain_form.proofs.lists.heads_of.Given as goal
 
 abbrev pub invariant-each : goal.invariant-each

@@ -1,6 +1,6 @@
 use Rattle.std.proofs.Common.{sym, map, ◌∙◌}
 use Rattle.std.proofs.lemmas.List.{at_drop_all}
-use Rattle.pddl_types.specs.Numberings.{numbered, numbered_from}
+use Rattle.name_table.specs.Tables.{numbered, numbered_from}
 use Rattle.plain_form.proofs.numbers.numbered.Goals as goal
 
 pub returns : goal.returns

@@ -1,5 +1,5 @@
 use Rattle.std.proofs.Common.{◌≡◌, [], drop, map}
-use Rattle.pddl_types.specs.Numberings.{numbered_from}
+use Rattle.name_table.specs.Tables.{numbered_from}
 use Rattle.plain_form.proofs.numbers.numbered.Given as goal
 
 abbrev pub invariant-each : goal.invariant-each

@@ -1,7 +1,7 @@
 use Rattle.std.proofs.Common.{◌≡◌, List, drop}
 use Rattle.std.specs.List.{list_all}
 use Rattle.pddl_terms.specs.declared.names.Name.{Name}
-use Rattle.pddl_types.specs.Numberings.{numbered}
+use Rattle.name_table.specs.Tables.{numbered}
 use Rattle.plain_form.specs.Tests.{passes_as_function}
 use Rattle.plain_form.proofs.plain.pass_as_functions.Given as goal
 

@@ -1,6 +1,6 @@
 use Rattle.std.proofs.Common.{◌∙◌, ap, rules, Some, None}
-use Rattle.pddl_types.specs.Checks.{heads_of}
-use Rattle.pddl_types.specs.Numberings.{place_in}
+use Rattle.pddl_types.specs.Pairs.{heads_of}
+use Rattle.name_table.specs.Tables.{place_in}
 use Rattle.plain_form.proofs.Found.{function_within, number_found}
 use Rattle.plain_form.proofs.functions.Functions.number.Goals as goal
 

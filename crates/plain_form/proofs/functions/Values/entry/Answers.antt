@@ -3,7 +3,7 @@ use Rattle.std.specs.Option.{option_and_then}
 use Rattle.std.specs.Prelude.{slice_get}
 use Rattle.num_ends.specs.Decimal.{Decimal}
 use Rattle.pddl_terms.specs.declared.names.Atom.{Atom}
-use Rattle.pddl_types.proofs.Numbered.{first_by_number}
+use Rattle.name_table.proofs.Numbered.{first_by_number}
 use Rattle.plain_form.specs.Plain.{entry_of}
 use Rattle.plain_form.proofs.functions.Values.entry.Goals as goal
 

@@ -1,6 +1,6 @@
 use Rattle.std.proofs.Common.{ℕ, List, refl, sym, ap, ◌∙◌}
-use Rattle.pddl_types.specs.Numberings.{number_in, with_number}
-use Rattle.pddl_types.proofs.Hashed.{as_texts, not_some, numbered_last}
+use Rattle.name_table.specs.Tables.{table_number as number_in, with_number}
+use Rattle.name_table.proofs.Hashed.{as_texts, not_some, numbered_last}
 use Rattle.plain_form.proofs.numbers.Numbers.add.Goals as goal
 
 pub returns : goal.returns

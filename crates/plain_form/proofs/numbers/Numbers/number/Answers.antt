@@ -1,6 +1,6 @@
 use Rattle.std.proofs.Common.{ap, ◌∙◌}
-use Rattle.pddl_types.specs.Numberings.{number_in}
-use Rattle.pddl_types.proofs.Hashed.{looked_up}
+use Rattle.name_table.specs.Tables.{table_number as number_in}
+use Rattle.name_table.proofs.Hashed.{looked_up}
 use Rattle.plain_form.proofs.numbers.Numbers.number.Goals as goal
 
 pub returns : goal.returns

@@ -1,7 +1,7 @@
 use Rattle.std.proofs.Common.{ap, refl, ◌∙◌, not, List, ℕ, map}
 use Rattle.std.specs.Prelude.{bytes_eq}
-use Rattle.pddl_types.specs.Checks.{is_among, with_text}
-use Rattle.pddl_types.proofs.Hashed.{any_item, added_item}
+use Rattle.name_table.specs.Tables.{is_text_among as is_among, with_text}
+use Rattle.name_table.proofs.Hashed.{any_item, added_item}
 use Rattle.plain_form.proofs.seen.Seen.add.Goals as goal
 
 pub returns-clause-new : goal.returns-clause-new

@@ -1,0 +1,188 @@
+//! Pairs of short texts, checked: the first fault, and the reads of what is well formed.
+
+use pddl_reader::{read_domain, read_problem};
+use pddl_types::{CheckFault, CheckKind, Checked, Side, check};
+use std::alloc::Global;
+use std::test::Fail;
+
+/// A problem that says nothing.
+const EMPTY: &str = "(define (problem p) (:init) (:goal ()))";
+
+const TYPED: &str =
+    "(define (domain d) (:types truck place - object van - truck) (:constants l0 - place) \
+(:predicates (at ?t ?l) (free ?t)) (:functions (load ?t) (total)) (:action go) (:action stay))";
+
+// The check of two texts that can be read.
+fn checked(alloc: Global, domain: &str, problem: &str) -> Option<Result<Checked, CheckFault>> {
+    if domain.len() > 512 || problem.len() > 512 {
+        return None;
+    }
+    let domain = read_domain(alloc, domain.as_bytes()).ok()?;
+    let problem = read_problem(alloc, problem.as_bytes()).ok()?;
+    Some(check(alloc, domain, problem))
+}
+
+/// Lets a pair go.
+fn discard(_pair: Checked) {}
+
+// Whether the answer is this first fault, or a pair where there is none.
+fn is_answer(
+    found: Option<Result<Checked, CheckFault>>,
+    want: Option<(Side, CheckKind, &str, u32)>,
+) -> bool {
+    match (found, want) {
+        (Some(Ok(pair)), None) => {
+            discard(pair);
+            true
+        }
+        (Some(Err(CheckFault::At(side, kind, name))), Some(want)) => {
+            side == want.0
+                && kind == want.1
+                && name.text.as_slice() == want.2.as_bytes()
+                && name.at == want.3
+        }
+        _ => false,
+    }
+}
+
+#[test]
+fn first_faults(rt: HostRuntime) -> Result<(), Fail> {
+    let alloc = rt.alloc();
+    let rows = [
+        (
+            "(define (domain d) (:types block - block))",
+            "(define (problem p) (:objects b - ball) (:init) (:goal ()))",
+            Some((Side::Domain, CheckKind::CyclicType, "block", 27)),
+        ),
+        (
+            "(define (domain d) (:types block))",
+            "(define (problem p) (:objects b - ball) (:init) (:goal ()))",
+            Some((Side::Problem, CheckKind::UnknownType, "ball", 34)),
+        ),
+        (
+            "(define (domain d) (:types block))",
+            "(define (problem p) (:objects b - block) (:init) (:goal ()))",
+            None,
+        ),
+        (
+            "(define (domain d) (:types s - t t - s u - s))",
+            EMPTY,
+            Some((Side::Domain, CheckKind::CyclicType, "s", 27)),
+        ),
+        (
+            "(define (domain d) (:types s object))",
+            EMPTY,
+            Some((Side::Domain, CheckKind::Duplicate, "object", 29)),
+        ),
+        (
+            "(define (domain d) (:constants a))",
+            "(define (problem p) (:objects b a) (:init) (:goal ()))",
+            Some((Side::Problem, CheckKind::Duplicate, "a", 32)),
+        ),
+        (
+            "(define (domain d) (:functions (f)) (:predicates (q) (f)))",
+            EMPTY,
+            Some((Side::Domain, CheckKind::Duplicate, "f", 54)),
+        ),
+        (
+            "(define (domain d) (:predicates (q ?a ?b ?a)))",
+            EMPTY,
+            Some((Side::Domain, CheckKind::Duplicate, "?a", 41)),
+        ),
+        (
+            "(define (domain d) (:predicates (q ?o)) (:action a :parameters (?x) :precondition (q ?y)))",
+            EMPTY,
+            Some((Side::Domain, CheckKind::UnknownName, "?y", 85)),
+        ),
+        (
+            "(define (domain d) (:predicates (q ?o)) (:action a :effect (q o)))",
+            "(define (problem p) (:objects o) (:init) (:goal ()))",
+            Some((Side::Domain, CheckKind::UnknownName, "o", 62)),
+        ),
+        (
+            "(define (domain d) (:predicates (q)))",
+            "(define (problem p) (:init (= (q) 1)) (:goal ()))",
+            Some((Side::Problem, CheckKind::UnknownName, "q", 31)),
+        ),
+        (
+            "(define (domain d) (:predicates (q ?o)))",
+            "(define (problem p) (:init (q)) (:goal ()))",
+            Some((Side::Problem, CheckKind::Arity, "q", 28)),
+        ),
+        (
+            "(define (domain d) (:types s t) (:predicates (q ?o - s)))",
+            "(define (problem p) (:objects c - t) (:init (q c)) (:goal ()))",
+            Some((Side::Problem, CheckKind::WrongType, "c", 47)),
+        ),
+        (
+            "(define (domain d) (:types s) (:predicates (q ?o - s)) (:action a :parameters (?x) :effect (q ?x)))",
+            EMPTY,
+            None,
+        ),
+        (
+            "(define (domain d) (:types s t) (:predicates (q ?o - s)) (:action a :parameters (?x - t) :effect (q ?x)))",
+            EMPTY,
+            Some((Side::Domain, CheckKind::WrongType, "?x", 100)),
+        ),
+        (
+            "(define (domain d) (:functions (f) (g)) (:action a :precondition (< (/ 1 (+ (g) (f))) 1) :effect (increase (f) 1)))",
+            EMPTY,
+            Some((Side::Domain, CheckKind::Divide, "f", 81)),
+        ),
+        (
+            "(define (domain d) (:functions (f ?o)))",
+            "(define (problem p) (:objects c e) (:init (= (f c) 1) (= (f e) 1) (= (f c) 1)) (:goal ()))",
+            Some((Side::Problem, CheckKind::Duplicate, "f", 70)),
+        ),
+        (
+            "(define (domain d) (:action a) (:action a :effect (q)))",
+            "(define (problem p) (:init (r)) (:goal ()))",
+            Some((Side::Domain, CheckKind::Duplicate, "a", 40)),
+        ),
+    ];
+    for (domain, problem, want) in rows {
+        assert!(rt;
+            is_answer(checked(alloc, domain, problem), want),
+            "{domain} {problem}"
+        );
+    }
+    Ok(())
+}
+
+fn is_typed_well(pair: &Checked) -> bool {
+    let van = pair.object(1);
+    pair.objects() == 3
+        && van.name.text.as_slice() == b"v".as_slice()
+        && van.kind.text.as_slice() == b"van".as_slice()
+        && pair.fits(1, &pair.domain().types.as_slice()[0].name)
+        && !pair.fits(0, &pair.domain().types.as_slice()[0].name)
+}
+
+#[test]
+fn reads_of_a_checked_pair(rt: HostRuntime) -> Result<(), Fail> {
+    let problem = "(define (problem p) (:objects v - van o) (:init) (:goal ()))";
+    let rows: [(&[u8], Option<u32>, Option<u32>, Option<u32>, Option<u32>); 9] = [
+        (b"l0", Some(0), None, None, None),
+        (b"v", Some(1), None, None, None),
+        (b"o", Some(2), None, None, None),
+        (b"free", None, Some(1), None, None),
+        (b"load", None, None, Some(0), None),
+        (b"total", None, None, Some(1), None),
+        (b"go", None, None, None, Some(0)),
+        (b"stay", None, None, None, Some(1)),
+        (b"van", None, None, None, None),
+    ];
+    let pair = match checked(rt.alloc(), TYPED, problem) {
+        Some(Ok(pair)) => pair,
+        _ => return Err(Fail::new("the pair was refused")),
+    };
+    assert!(rt; is_typed_well(&pair));
+    for (name, object, predicate, function, action) in rows {
+        assert!(rt; pair.object_number(name) == object);
+        assert!(rt; pair.predicate_number(name) == predicate);
+        assert!(rt; pair.function_number(name) == function);
+        assert!(rt; pair.schema_number(name) == action);
+    }
+    discard(pair);
+    Ok(())
+}

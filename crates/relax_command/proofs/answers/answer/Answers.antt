@@ -1,0 +1,12 @@
+use Rattle.relax_command.proofs.Answered.{of_box, of_refusal}
+use Rattle.relax_command.proofs.answers.answer.Goals as goal
+
+pub returns-in-Ok : goal.returns-in-Ok
+returns-in-Ok c =
+    of_box c.args.domain.now c.args.problem.now c.in-Ok.found.task c.in-Ok.found.part c.box_answer-answer.result
+    c.in-Ok.ensures.accepted c.in-Ok.ensures.relaxed c.box_answer-answer.ensures
+
+pub returns-in-Err-Refused : goal.returns-in-Err-Refused
+returns-in-Err-Refused c =
+    of_refusal c.args.domain.now c.args.problem.now c.in-Err-Refused.refusal c.refused.result
+    (rw c.in-Err-Refused.field-0-is at c.in-Err-Refused.ensures.fault) c.refused.ensures

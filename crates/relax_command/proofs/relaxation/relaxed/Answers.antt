@@ -1,0 +1,17 @@
+use Rattle.std.proofs.Common.{◌∙◌, length, ap}
+use Rattle.ground_task.specs.States.{StateValue}
+use Rattle.ground_task.proofs.FirstState.{facts_of_first, values_of_first}
+use Rattle.relax_command.proofs.LeastBox.{relaxed_box}
+use Rattle.relax_command.proofs.relaxation.relaxed.Goals as goal
+
+pub least_box-requires-clause-facts : goal.least_box-requires-clause-facts
+least_box-requires-clause-facts c =
+    ap (λ (s : StateValue). length s.facts) c.first.ensures ∙ facts_of_first c.args.task.raw c.args.task.places
+
+pub least_box-requires-clause-values : goal.least_box-requires-clause-values
+least_box-requires-clause-values c =
+    ap (λ (s : StateValue). length s.values) c.first.ensures ∙ values_of_first c.args.task.raw c.args.task.places
+
+pub returns-in-Ok-clause-relaxed : goal.returns-in-Ok-clause-relaxed
+returns-in-Ok-clause-relaxed c =
+    relaxed_box c.args.task c.in-Ok.part c.requires (rw c.first.ensures at c.in-Ok.ensures)
