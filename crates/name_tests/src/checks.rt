@@ -1,6 +1,10 @@
 //! Pairs of short texts, checked: the first fault, and the reads of what is well formed.
 
+ghost use Rattle.std.specs.Prelude.{◌≤◌, length};
+ghost use Rattle.pddl_terms.specs.Readable.{IsReadableDomain};
+
 use pddl_reader::{read_domain, read_problem};
+use pddl_terms::Domain;
 use pddl_types::{CheckFault, CheckKind, Checked, Side, check};
 use std::alloc::Global;
 use std::test::Fail;
@@ -12,36 +16,62 @@ const TYPED: &str =
     "(define (domain d) (:types truck place - object van - truck) (:constants l0 - place) \
 (:predicates (at ?t ?l) (free ?t)) (:functions (load ?t) (total)) (:action go) (:action stay))";
 
+/// Lets a pair go.
+fn discard(_pair: Checked) {}
+
+/// Lets a domain go.
+fn discard_domain(_domain: Domain) {}
+
+// The check of a domain and of the text of a problem, where that can be read.
+fn checked_with(alloc: Global, domain: Domain, problem: &str) -> Option<Result<Checked, CheckFault>>
+    requires short { length problem.now ≤ 512 }
+    requires read { IsReadableDomain domain }
+{
+    match read_problem(alloc, problem.as_bytes()) {
+        Ok(problem) => Some(check(alloc, domain, problem)),
+        Err(_) => {
+            discard_domain(domain);
+            None
+        }
+    }
+}
+
 // The check of two texts that can be read.
 fn checked(alloc: Global, domain: &str, problem: &str) -> Option<Result<Checked, CheckFault>> {
     if domain.len() > 512 || problem.len() > 512 {
         return None;
     }
-    let domain = read_domain(alloc, domain.as_bytes()).ok()?;
-    let problem = read_problem(alloc, problem.as_bytes()).ok()?;
-    Some(check(alloc, domain, problem))
+    match read_domain(alloc, domain.as_bytes()) {
+        Ok(domain) => checked_with(alloc, domain, problem),
+        Err(_) => None,
+    }
 }
 
-/// Lets a pair go.
-fn discard(_pair: Checked) {}
-
-// Whether the answer is this first fault, or a pair where there is none.
-fn is_answer(
-    found: Option<Result<Checked, CheckFault>>,
-    want: Option<(Side, CheckKind, &str, u32)>,
-) -> bool {
-    match (found, want) {
-        (Some(Ok(pair)), None) => {
-            discard(pair);
-            true
-        }
-        (Some(Err(CheckFault::At(side, kind, name))), Some(want)) => {
+// Whether the fault is this one.
+fn is_fault(fault: CheckFault, want: Option<(Side, CheckKind, &str, u32)>) -> bool {
+    match (fault, want) {
+        (CheckFault::At(side, kind, name), Some(want)) => {
             side == want.0
                 && kind == want.1
                 && name.text.as_slice() == want.2.as_bytes()
                 && name.at == want.3
         }
         _ => false,
+    }
+}
+
+// Whether the answer is this first fault, or a pair where there is none.
+fn is_answer(
+    found: Option<Result<Checked, CheckFault>>,
+    want: Option<(Side, CheckKind, &str, u32)>,
+) -> bool {
+    match found {
+        Some(Ok(pair)) => {
+            discard(pair);
+            want.is_none()
+        }
+        Some(Err(fault)) => is_fault(fault, want),
+        None => false,
     }
 }
 
@@ -150,18 +180,55 @@ fn first_faults(rt: HostRuntime) -> Result<(), Fail> {
 }
 
 fn is_typed_well(pair: &Checked) -> bool {
+    if pair.objects() != 3 {
+        return false;
+    }
     let van = pair.object(1);
-    pair.objects() == 3
-        && van.name.text.as_slice() == b"v".as_slice()
+    let truck = match pair.domain().types.as_slice().first() {
+        Some(kind) => &kind.name,
+        None => return false,
+    };
+    van.name.text.as_slice() == b"v".as_slice()
         && van.kind.text.as_slice() == b"van".as_slice()
-        && pair.fits(1, &pair.domain().types.as_slice()[0].name)
-        && !pair.fits(0, &pair.domain().types.as_slice()[0].name)
+        && pair.fits(1, truck)
+        && !pair.fits(0, truck)
+}
+
+/// A name, and its number as an object, a predicate, a function and an action.
+type Row = (
+    &'static [u8],
+    Option<u32>,
+    Option<u32>,
+    Option<u32>,
+    Option<u32>,
+);
+
+fn are_read(pair: &Checked, rows: &[Row]) -> bool {
+    for row in rows {
+        if pair.object_number(row.0) != row.1
+            || pair.predicate_number(row.0) != row.2
+            || pair.function_number(row.0) != row.3
+            || pair.schema_number(row.0) != row.4
+        {
+            return false;
+        }
+    }
+    true
+}
+
+// The pair of an answer.
+fn pair_of(found: Option<Result<Checked, CheckFault>>) -> Option<Checked> {
+    match found {
+        Some(Ok(pair)) => Some(pair),
+        Some(Err(_)) => None,
+        None => None,
+    }
 }
 
 #[test]
 fn reads_of_a_checked_pair(rt: HostRuntime) -> Result<(), Fail> {
     let problem = "(define (problem p) (:objects v - van o) (:init) (:goal ()))";
-    let rows: [(&[u8], Option<u32>, Option<u32>, Option<u32>, Option<u32>); 9] = [
+    let rows: [Row; 9] = [
         (b"l0", Some(0), None, None, None),
         (b"v", Some(1), None, None, None),
         (b"o", Some(2), None, None, None),
@@ -172,17 +239,13 @@ fn reads_of_a_checked_pair(rt: HostRuntime) -> Result<(), Fail> {
         (b"stay", None, None, None, Some(1)),
         (b"van", None, None, None, None),
     ];
-    let pair = match checked(rt.alloc(), TYPED, problem) {
-        Some(Ok(pair)) => pair,
-        _ => return Err(Fail::new("the pair was refused")),
-    };
-    assert!(rt; is_typed_well(&pair));
-    for (name, object, predicate, function, action) in rows {
-        assert!(rt; pair.object_number(name) == object);
-        assert!(rt; pair.predicate_number(name) == predicate);
-        assert!(rt; pair.function_number(name) == function);
-        assert!(rt; pair.schema_number(name) == action);
+    match pair_of(checked(rt.alloc(), TYPED, problem)) {
+        Some(pair) => {
+            let held = is_typed_well(&pair) && are_read(&pair, &rows);
+            discard(pair);
+            assert!(rt; held);
+            Ok(())
+        }
+        None => Err(Fail::new("the pair was refused")),
     }
-    discard(pair);
-    Ok(())
 }
