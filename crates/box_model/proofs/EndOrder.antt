@@ -1,10 +1,8 @@
 -- Ends and the decimals between them.
 use Rattle.std.proofs.Common.{◌≡◌, true, refl}
-use Rattle.num_ends.specs.Decimal.{Decimal}
-use Rattle.num_ends.specs.Ends.{is_above, is_below, is_inhabited, is_end_below, lower_covers, upper_covers}
+use Rattle.num_ends.specs.Ends.{is_inhabited, is_end_below, lower_covers, upper_covers}
 use Rattle.num_ends.specs.declared.ends.End.{End}
 use Rattle.num_ends.specs.declared.ends.End.TheVariants.{NegInf, Excl, Incl, PosInf}
-use Rattle.box_model.specs.Demands.{is_infinite}
 use Rattle.num_ends.proofs.DecimalOrder.{less_trans, less_most_trans, most_less_trans, most_trans, less_is_most}
 
 -- ---- ends further out stand so as the inner ones do
@@ -108,16 +106,3 @@ inhabited_upper (Incl y) (Incl z) (Incl x) h k = most_trans x z y k h
 inhabited_upper NegInf PosInf l h k = cc
 inhabited_upper NegInf (Excl z) l h k = cc
 inhabited_upper NegInf (Incl z) l h k = cc
-
--- an infinite end that lets something in lets in all
-pub above_infinite : (l : End) (a b : Decimal) → is_infinite l ≡ true → is_above l a ≡ true → is_above l b ≡ true
-above_infinite NegInf a b h k = refl
-above_infinite (Excl x) a b h k = cc
-above_infinite (Incl x) a b h k = cc
-above_infinite PosInf a b h k = cc
-
-pub below_infinite : (u : End) (a b : Decimal) → is_infinite u ≡ true → is_below u a ≡ true → is_below u b ≡ true
-below_infinite NegInf a b h k = cc
-below_infinite (Excl x) a b h k = cc
-below_infinite (Incl x) a b h k = cc
-below_infinite PosInf a b h k = refl

@@ -1,10 +1,14 @@
 pub mod EndOrder
+pub mod Operations
 pub mod ReadLemmas
+pub mod Intervals
 pub mod Soundness
 pub mod Monotony
 pub mod Numbers
 pub mod CapLemmas
 pub mod Closed
+pub mod DemandSteps
 pub mod Trees
 pub mod OneState
 pub mod Positions
+pub mod Halves

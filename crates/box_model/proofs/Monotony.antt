@@ -1,22 +1,21 @@
 -- What may hold in a box may hold in each box around it.
-use Rattle.std.proofs.Common.{◌≡◌, ℕ, ◌≤◌, Bool, true, List, [], ◌∷◌, length, get_or, map, sym, refl, ap₂, ◌∙◌, subst, inl, inr}
+use Rattle.std.proofs.Common.{◌≡◌, ℕ, ◌≤◌, Bool, true, List, [], ◌∷◌, length, get_or, map, sym, refl, ◌∙◌, subst, inl, inr}
 use Rattle.std.specs.List.{list_all, list_any}
 use Rattle.std.proofs.lemmas.Bool.{and_parts, and_from, or_cases, or_left, or_right, cases_lt}
 use Rattle.std.proofs.lemmas.List.{get_or_past}
 use Rattle.num_ends.specs.Ends.{Interval, is_within, may_less, may_less_equal, whole_line, lower_covers}
 use Rattle.ground_task.specs.declared.raw.Rel.{Rel}
 use Rattle.ground_task.specs.declared.raw.Rel.TheVariants.{Less, LessEqual, Equal, GreaterEqual, Greater}
-use Rattle.ground_task.specs.declared.raw.GExpr.{GExpr, GExpr-F, out-GExpr, fold_out-GExpr, map-GExpr}
-use Rattle.ground_task.specs.declared.raw.GExpr.TheOpen as expr
+use Rattle.ground_task.specs.declared.raw.GExpr.{GExpr}
 use Rattle.ground_task.specs.declared.raw.GCond.{GCond, GCond-F, fold-roll-GCond, ind-GCond, map-GCond}
 use Rattle.ground_task.specs.declared.raw.GCond.TheOpen as cond
 use Rattle.box_model.specs.Boxes.{fact_in, fluent_in, may_be, is_may_within, LiesWithin}
-use Rattle.box_model.specs.Hold.{interval_layer, interval_of, may_stand, may_hold_layer, may_hold}
+use Rattle.box_model.specs.Hold.{interval_of, may_stand, may_hold_layer, may_hold}
 use Rattle.box_model.specs.declared.state_box.May.{May}
 use Rattle.box_model.specs.declared.state_box.May.TheVariants.{True, False, Any}
 use Rattle.box_model.specs.declared.state_box.StateBox.{StateBox}
-use Rattle.num_ends.proofs.DecimalOrder.{most_refl}
-use Rattle.box_model.proofs.ReadLemmas.{AllFit, read_wider, fits_anywhere}
+use Rattle.box_model.proofs.ReadLemmas.{AllFit}
+use Rattle.box_model.proofs.Intervals.{AllInhabited, range_wider}
 use Rattle.box_model.proofs.EndOrder.{below_lower, below_upper, inhabited_lower, inhabited_upper}
 
 -- ---- intervals
@@ -67,18 +66,9 @@ module _ (b c : StateBox) (within : LiesWithin b c) where
         | inr h ↦ rw (get_or_past b.fluents x whole_line h, get_or_past c.fluents x whole_line (subst (λ (n : ℕ). n ≤ x) within.as_many_fluents h)) refl
       ]
 
-module _ (places : List ℕ) (b c : StateBox) (within : LiesWithin b c) (fits : AllFit places b) (fits' : AllFit places c) where
-  layer_wider : (o : GExpr-F GExpr) → is_within (interval_layer places b (map-GExpr GExpr Interval (interval_of places b) o)) (interval_layer places c (map-GExpr GExpr Interval (interval_of places c) o)) ≡ true
-  layer_wider (expr.Const d) = and_from _ _ (most_refl d) (most_refl d)
-  layer_wider (expr.Read x) =
-      read_wider (get_or places x 0) (fluent_in b x) (fluent_in c x) (fits_anywhere places b fits x) (fits_anywhere places c fits' x) (fluent_wider b c within x)
-  layer_wider (expr.Add p q) = refl
-  layer_wider (expr.Sub p q) = refl
-  layer_wider (expr.Mul p q) = refl
-
+module _ (places : List ℕ) (b c : StateBox) (within : LiesWithin b c) (fits : AllFit places b) (fits' : AllFit places c) (all : AllInhabited b) where
   pub interval_wider : (e : GExpr) → is_within (interval_of places b e) (interval_of places c e) ≡ true
-  interval_wider e =
-      ap₂ is_within (fold_out-GExpr Interval (interval_layer places b) e) (fold_out-GExpr Interval (interval_layer places c) e) ∙ layer_wider (out-GExpr e)
+  interval_wider = range_wider places b c fits fits' all (fluent_wider b c within)
 
   abbrev IsMonotone : GCond → Type 0
   IsMonotone g = may_hold places b g ≡ true → may_hold places c g ≡ true

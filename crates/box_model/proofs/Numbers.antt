@@ -91,30 +91,6 @@ pub trimmed_range : (d : Decimal) → InRange d.n → InRange (trimmed d).n
 unfolding trimmed
 trimmed_range d h = omega (arith, zeros_smaller d.p d.n)
 
--- a number at q places is above 0 where the decimal is
-pub rises : (q : ℕ) (d : Decimal) → int_lt (pos 0) d.n ≡ true → int_lt (pos 0) (number_at q d) ≡ true
-rises q d h =
-    let k = 10 ^ (q - d.p) in
-    ap (λ (m : ℤ). int_lt m (number_at q d)) (sym (ap pos (zero-mul k))) ∙ scaled_lt (pos 0) d.n k (one-le-pow (q - d.p) 10 (omega arith)) ∙ h
-
-pub falls : (q : ℕ) (d : Decimal) → int_lt d.n (pos 0) ≡ true → int_lt (number_at q d) (pos 0) ≡ true
-falls q d h =
-    let k = 10 ^ (q - d.p) in
-    ap (int_lt (number_at q d)) (sym (ap pos (zero-mul k))) ∙ scaled_lt d.n (pos 0) k (one-le-pow (q - d.p) 10 (omega arith)) ∙ h
-
--- a trimmed decimal has the sign
-pub trimmed_rises : (d : Decimal) → int_lt (pos 0) d.n ≡ true → int_lt (pos 0) (trimmed d).n ≡ true
-trimmed_rises d h =
-    let k = 10 ^ (d.p - (trimmed d).p) in
-    sym (scaled_lt (pos 0) (trimmed d).n k (one-le-pow (d.p - (trimmed d).p) 10 (omega arith)))
-    ∙ ap₂ int_lt (ap pos (zero-mul k)) (trimmed_number d.p d (omega arith) ∙ number_same d.p d refl) ∙ h
-
-pub trimmed_falls : (d : Decimal) → int_lt d.n (pos 0) ≡ true → int_lt (trimmed d).n (pos 0) ≡ true
-trimmed_falls d h =
-    let k = 10 ^ (d.p - (trimmed d).p) in
-    sym (scaled_lt (trimmed d).n (pos 0) k (one-le-pow (d.p - (trimmed d).p) 10 (omega arith)))
-    ∙ ap₂ int_lt (trimmed_number d.p d (omega arith) ∙ number_same d.p d refl) (ap pos (zero-mul k)) ∙ h
-
 -- ---- the same amount added on both sides
 
 lt_shifted : (v m g : ℤ) → int_lt v m ≡ true → int_lt (v +ℤ g) (m +ℤ g) ≡ true
@@ -139,18 +115,6 @@ most_shifted q a b g h k l =
 
 -- ---- what stands so to a decimal stands so to the trimmed one
 
-less_trimmed : (a k : Decimal) → is_less a k ≡ is_less a (trimmed k)
-less_trimmed a k =
-    let q = max (max a.p k.p) (trimmed k).p in
-    less_at q a k (omega arith) (omega arith) ∙ ap (int_lt (number_at q a)) (sym (trimmed_number q k (omega arith)))
-    ∙ sym (less_at q a (trimmed k) (omega arith) (omega arith))
-
-more_trimmed : (a k : Decimal) → is_less k a ≡ is_less (trimmed k) a
-more_trimmed a k =
-    let q = max (max a.p k.p) (trimmed k).p in
-    less_at q k a (omega arith) (omega arith) ∙ ap (λ (m : ℤ). int_lt m (number_at q a)) (sym (trimmed_number q k (omega arith)))
-    ∙ sym (less_at q (trimmed k) a (omega arith) (omega arith))
-
 pub most_trimmed : (a k : Decimal) → is_at_most a k ≡ is_at_most a (trimmed k)
 most_trimmed a k =
     let q = max (max a.p k.p) (trimmed k).p in
@@ -162,14 +126,6 @@ least_trimmed a k =
     let q = max (max a.p k.p) (trimmed k).p in
     most_at q k a (omega arith) (omega arith) ∙ ap (λ (m : ℤ). int_le m (number_at q a)) (sym (trimmed_number q k (omega arith)))
     ∙ sym (most_at q (trimmed k) a (omega arith) (omega arith))
-
-pub stands_trimmed : (r : Rel) (a k : Decimal) → stands r a k ≡ true → stands r a (trimmed k) ≡ true
-stands_trimmed Less a k h = sym (less_trimmed a k) ∙ h
-stands_trimmed LessEqual a k h = sym (most_trimmed a k) ∙ h
-stands_trimmed Equal a k h =
-    most_both_same a (trimmed k) (sym (most_trimmed a k) ∙ same_is_most a k h) (sym (least_trimmed a k) ∙ same_is_most k a (same_back a k h))
-stands_trimmed GreaterEqual a k h = sym (least_trimmed a k) ∙ h
-stands_trimmed Greater a k h = sym (more_trimmed a k) ∙ h
 
 -- a trimmed decimal is a member where the decimal is
 pub has_trimmed : (i : Interval) (d : Decimal) → has i d ≡ true → has i (trimmed d) ≡ true

@@ -13,7 +13,7 @@ use Rattle.num_ends.proofs.DecimalOrder.{most_refl, most_trans}
 use Rattle.num_ends.proofs.Members.{has_within, inhabited_wider, lower_covers_trans, upper_covers_trans}
 use Rattle.num_ends.proofs.OutwardSteps.{same_less, same_most, aligned_least, aligned_most, outward_around}
 use Rattle.ground_task.specs.Tasks.{TaskValue}
-use Rattle.box_model.specs.Boxes.{fluent_in, IsBoxOf, IsEndFor}
+use Rattle.box_model.specs.Boxes.{fluent_in, AreEndsFor, IsBoxOf, IsEndFor}
 use Rattle.box_model.specs.declared.state_box.StateBox.{StateBox}
 use Rattle.box_model.specs.Hold.{trimmed_end, read_interval}
 use Rattle.box_model.proofs.Numbers.{at_places, number_same, trimmed_number, most_trimmed, least_trimmed}
@@ -43,10 +43,6 @@ few_places q NegInf h = omega arith
 few_places q (Excl d) h = h.0
 few_places q (Incl d) h = h.0
 few_places q PosInf h = omega arith
-
--- both ends of an interval are those of a fluent with q places
-abbrev pub AreEndsFor : ℕ → Interval → Type 0
-AreEndsFor q i = IsEndFor q i.0 × IsEndFor q i.1
 
 pub within_read : (q : ℕ) (i : Interval) → AreEndsFor q i → is_within i (read_interval q i) ≡ true
 within_read q i fits =
@@ -229,13 +225,13 @@ less_of q a b h =
     let e : int_lt a b ≡ true = sym (same_less (at_places q a) (at_places q b) refl) ∙ h in
     omega (arith, ints)
 
-lower_top : (l : End) → lower_covers l PosInf ≡ true
+pub lower_top : (l : End) → lower_covers l PosInf ≡ true
 lower_top NegInf = refl
 lower_top (Excl d) = refl
 lower_top (Incl d) = refl
 lower_top PosInf = refl
 
-upper_bottom : (u : End) → upper_covers u NegInf ≡ true
+pub upper_bottom : (u : End) → upper_covers u NegInf ≡ true
 upper_bottom NegInf = refl
 upper_bottom (Excl d) = refl
 upper_bottom (Incl d) = refl

@@ -1,24 +1,24 @@
 -- A condition that holds in a state of a box may hold in the box.
-use Rattle.std.proofs.Common.{◌≡◌, ℕ, Bool, true, false, List, [], ◌∷◌, length, map, get_or, sym, refl, ap₂, ◌∙◌, subst, inl, inr}
+use Rattle.std.proofs.Common.{◌≡◌, ℕ, Bool, true, false, List, [], ◌∷◌, length, map, get_or, sym, refl, ◌∙◌, subst, inl, inr}
 use Rattle.std.specs.List.{list_all, list_any}
 use Rattle.std.proofs.lemmas.Bool.{and_parts, and_from, or_cases, or_left, or_right, cases_lt, not-true}
 use Rattle.std.proofs.lemmas.List.{get_or_past}
 use Rattle.num_ends.specs.Decimal.{Decimal}
 use Rattle.num_ends.specs.Ends.{Interval, has, whole_line}
 use Rattle.ground_task.specs.States.{StateValue}
-use Rattle.ground_task.specs.Meaning.{fluent_value, value_layer, value_of, stands, holds_layer, holds}
+use Rattle.ground_task.specs.Meaning.{fact_value, fluent_value, value_of, stands, holds_layer, holds}
 use Rattle.ground_task.specs.declared.raw.Rel.{Rel}
 use Rattle.ground_task.specs.declared.raw.Rel.TheVariants.{Less, LessEqual, Equal, GreaterEqual, Greater}
-use Rattle.ground_task.specs.declared.raw.GExpr.{GExpr, GExpr-F, out-GExpr, fold_out-GExpr, map-GExpr}
-use Rattle.ground_task.specs.declared.raw.GExpr.TheOpen as expr
+use Rattle.ground_task.specs.declared.raw.GExpr.{GExpr}
 use Rattle.ground_task.specs.declared.raw.GCond.{GCond, GCond-F, fold-roll-GCond, ind-GCond, map-GCond}
 use Rattle.ground_task.specs.declared.raw.GCond.TheOpen as cond
 use Rattle.box_model.specs.Boxes.{fact_in, fluent_in, may_be, Contains}
-use Rattle.box_model.specs.Hold.{interval_layer, interval_of, may_stand, may_hold_layer, may_hold}
+use Rattle.box_model.specs.Hold.{interval_of, may_stand, may_hold_layer, may_hold}
 use Rattle.box_model.specs.declared.state_box.May.TheVariants.{Any}
 use Rattle.box_model.specs.declared.state_box.StateBox.{StateBox}
-use Rattle.num_ends.proofs.DecimalOrder.{most_refl, same_is_most, same_back}
-use Rattle.box_model.proofs.ReadLemmas.{AllFit, has_read, fits_anywhere}
+use Rattle.num_ends.proofs.DecimalOrder.{same_is_most, same_back}
+use Rattle.box_model.proofs.ReadLemmas.{AllFit}
+use Rattle.box_model.proofs.Intervals.{value_within}
 use Rattle.num_ends.proofs.Meetings.{less_met, at_most_met}
 
 -- two members that stand so show that two intervals may
@@ -49,22 +49,17 @@ module _ (places : List ℕ) (b : StateBox) (s : StateValue) (inside : Contains 
       ]
 
 module _ (places : List ℕ) (b : StateBox) (s : StateValue) (inside : Contains places b s) (fits : AllFit places b) where
-  layer_inside : (o : GExpr-F GExpr) → has (interval_layer places b (map-GExpr GExpr Interval (interval_of places b) o)) (value_layer places s (map-GExpr GExpr Decimal (value_of places s) o)) ≡ true
-  layer_inside (expr.Const c) = and_from _ _ (most_refl c) (most_refl c)
-  layer_inside (expr.Read x) = has_read (get_or places x 0) (fluent_in b x) (fluent_value places s x) (fits_anywhere places b fits x) (fluent_inside places b s inside x)
-  layer_inside (expr.Add p q) = refl
-  layer_inside (expr.Sub p q) = refl
-  layer_inside (expr.Mul p q) = refl
-
   -- the value of an expression lies in its interval
   pub value_inside : (e : GExpr) → has (interval_of places b e) (value_of places s e) ≡ true
-  value_inside e =
-      ap₂ has (fold_out-GExpr Interval (interval_layer places b) e) (fold_out-GExpr Decimal (value_layer places s) e) ∙ layer_inside (out-GExpr e)
+  value_inside = value_within places b s fits (fluent_inside places b s inside)
+
+  abbrev truths : GCond-F Bool → Bool
+  truths = holds_layer (fact_value s) (fluent_value places s)
 
   abbrev IsSound : GCond → Type 0
   IsSound c = holds places s c ≡ true → may_hold places b c ≡ true
 
-  fact_sound : (f : ℕ) (truth : Bool) → holds_layer places s (cond.Fact f truth) ≡ true → may_hold_layer places b (cond.Fact f truth) ≡ true
+  fact_sound : (f : ℕ) (truth : Bool) → truths (cond.Fact f truth) ≡ true → may_hold_layer places b (cond.Fact f truth) ≡ true
   fact_sound f true h = subst (λ (v : Bool). may_be (fact_in b f) v ≡ true) h (fact_inside places b s inside f)
   fact_sound f false h = subst (λ (v : Bool). may_be (fact_in b f) v ≡ true) (not-true (get_or s.facts f false) h) (fact_inside places b s inside f)
 
@@ -83,7 +78,7 @@ module _ (places : List ℕ) (b : StateBox) (s : StateValue) (inside : Contains 
       ]
 
   layer_sound : (y : GCond-F ((c : GCond) × IsSound c)) →
-      holds_layer places s (map-GCond GCond Bool (holds places s) (map-GCond ((c : GCond) × IsSound c) GCond (λ e. e.0) y)) ≡ true →
+      truths (map-GCond GCond Bool (holds places s) (map-GCond ((c : GCond) × IsSound c) GCond (λ e. e.0) y)) ≡ true →
       may_hold_layer places b (map-GCond GCond Bool (may_hold places b) (map-GCond ((c : GCond) × IsSound c) GCond (λ e. e.0) y)) ≡ true
   layer_sound cond.True h = refl
   layer_sound cond.False h = h
@@ -95,6 +90,6 @@ module _ (places : List ℕ) (b : StateBox) (s : StateValue) (inside : Contains 
 
   pub holds_sound : (c : GCond) → holds places s c ≡ true → may_hold places b c ≡ true
   holds_sound = ind-GCond IsSound (λ x y is h.
-      let at : holds_layer places s (map-GCond GCond Bool (holds places s) x) ≡ true = sym (fold-roll-GCond Bool (holds_layer places s) x) ∙ h in
+      let at : truths (map-GCond GCond Bool (holds places s) x) ≡ true = sym (fold-roll-GCond Bool (truths) x) ∙ h in
       fold-roll-GCond Bool (may_hold_layer places b) x
-      ∙ subst (λ (z : GCond-F GCond). holds_layer places s (map-GCond GCond Bool (holds places s) z) ≡ true → may_hold_layer places b (map-GCond GCond Bool (may_hold places b) z) ≡ true) is (layer_sound y) at)
+      ∙ subst (λ (z : GCond-F GCond). truths (map-GCond GCond Bool (holds places s) z) ≡ true → may_hold_layer places b (map-GCond GCond Bool (may_hold places b) z) ≡ true) is (layer_sound y) at)

@@ -43,6 +43,10 @@ IsEndFor q (Excl d) = ((trimmed d).p ≤ q) × InRange (trimmed d).n
 IsEndFor q (Incl d) = ((trimmed d).p ≤ q) × InRange (trimmed d).n
 IsEndFor q PosInf = ⊤
 
+-- so has either end of an interval
+abbrev pub AreEndsFor : ℕ → Interval → Type 0
+AreEndsFor q i = IsEndFor q i.0 × IsEndFor q i.1
+
 -- a box of the task: a part per fact and fluent, none of them empty, with ends that the fluent may have
 pub record IsBoxOf (t : TaskValue) (b : StateBox) : Type 0 where
   pub as_many_facts : length b.facts ≡ length t.raw.facts

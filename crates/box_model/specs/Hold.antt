@@ -2,16 +2,17 @@
 use Rattle.std.specs.Prelude.{ℕ, List, Bool, true, false, slice_index_or}
 use Rattle.std.specs.List.{list_all, list_any}
 use Rattle.num_ends.specs.Decimal.{trimmed}
-use Rattle.num_ends.specs.Arithmetic.{outward_of}
+use Rattle.num_ends.specs.Arithmetic.{HasPlaces, interval_difference, interval_product, interval_sum, outward_of}
 use Rattle.num_ends.specs.declared.ends.End.{End}
 use Rattle.num_ends.specs.declared.ends.End.TheVariants.{NegInf, Excl, Incl, PosInf}
-use Rattle.num_ends.specs.Ends.{Interval, point_of, whole_line, may_less, may_less_equal, may_equal}
+use Rattle.num_ends.specs.Ends.{Interval, point_of, may_less, may_less_equal, may_equal}
 use Rattle.ground_task.specs.declared.raw.Rel.{Rel}
 use Rattle.ground_task.specs.declared.raw.Rel.TheVariants.{Less, LessEqual, Equal, GreaterEqual, Greater}
-use Rattle.ground_task.specs.declared.raw.GExpr.{GExpr, GExpr-F, fold-GExpr}
+use Rattle.ground_task.specs.declared.raw.GExpr.{GExpr, GExpr-F, fold-GExpr, map-GExpr}
 use Rattle.ground_task.specs.declared.raw.GExpr.TheOpen as expr
 use Rattle.ground_task.specs.declared.raw.GCond.{GCond, GCond-F, fold-GCond}
 use Rattle.ground_task.specs.declared.raw.GCond.TheOpen as cond
+use Rattle.ground_task.specs.Placed.{places_layer}
 use Rattle.box_model.specs.Boxes.{fact_in, fluent_in, may_be}
 use Rattle.box_model.specs.declared.state_box.StateBox.{StateBox}
 
@@ -27,17 +28,38 @@ trimmed_end PosInf = PosInf
 abbrev pub read_interval : ℕ → Interval → Interval
 read_interval q i = outward_of q (trimmed_end i.0, trimmed_end i.1)
 
--- The interval of a plain operand: of a constant its point, of a read the box's, moved outward. An
--- operation is no plain operand; it is taken for any value, which leaves nothing out.
-abbrev pub interval_layer : List ℕ → StateBox → GExpr-F Interval → Interval
-interval_layer places b (expr.Const c) = point_of c
-interval_layer places b (expr.Read x) = read_interval (slice_index_or places x 0) (fluent_in b x)
-interval_layer places b (expr.Add i j) = whole_line
-interval_layer places b (expr.Sub i j) = whole_line
-interval_layer places b (expr.Mul i j) = whole_line
+-- both ends, where they are finite, have this count of places
+pub record EndsHave (p : ℕ) (i : Interval) : Type 0 where
+  pub lower : HasPlaces p i.0
+  pub upper : HasPlaces p i.1
 
+-- the interval of an expression, and the places of its finite ends
+pub record Ranging : Type 0 where
+  pub interval : Interval
+  pub places : ℕ
+
+-- The interval of a constant is its point, that of a read the box's, and that of an operation is made of those of its
+-- parts.
+abbrev pub combined : StateBox → GExpr-F Interval → Interval
+combined b (expr.Const c) = point_of (trimmed c)
+combined b (expr.Read x) = (trimmed_end (fluent_in b x).0, trimmed_end (fluent_in b x).1)
+combined b (expr.Add i j) = interval_sum i j
+combined b (expr.Sub i j) = interval_difference i j
+combined b (expr.Mul i j) = interval_product i j
+
+-- Each part's ends are brought to its places, and move outward into the range there, before they are used further.
+-- So the places of an end don't depend on the box, and a wider box gives wider intervals.
+abbrev pub ranging_layer : List ℕ → StateBox → GExpr-F Ranging → Ranging
+ranging_layer places b o =
+    let q = places_layer places (map-GExpr Ranging ℕ (λ r. r.places) o) in
+    record { interval = outward_of q (combined b (map-GExpr Ranging Interval (λ r. r.interval) o)); places = q }
+
+abbrev pub ranging_of : List ℕ → StateBox → GExpr → Ranging
+ranging_of places b = fold-GExpr Ranging (ranging_layer places b)
+
+-- the values that an expression may have in a box
 abbrev pub interval_of : List ℕ → StateBox → GExpr → Interval
-interval_of places b = fold-GExpr Interval (interval_layer places b)
+interval_of places b e = (ranging_of places b e).interval
 
 -- some value of the first interval and some value of the second stand so
 abbrev pub may_stand : Rel → Interval → Interval → Bool

@@ -1,4 +1,5 @@
 pub mod Boxes
-pub mod Demands
 pub mod Hold
+pub mod Demands
+pub mod Caps
 pub mod Least

@@ -1,13 +1,15 @@
 //! How far a change by a constant moves a fluent where its action's precondition bounds it.
 
-ghost use Rattle.std.specs.Prelude.{◌≡◌, ◌<◌, ℕ, IsTrue, List, Some, length, slice_get, slice_index_or, option_map, filter_map, cond as choose};
-ghost use Rattle.std.specs.List.{list_all};
+ghost use Rattle.std.specs.Prelude.{ℕ, ◌≡◌, ◌⊎◌, None, Some, ◌<◌, ◌≤◌, ◌∷◌, ◌+ℤ◌, false, true, MatchOption, length, slice_get, slice_index_or, filter_map, cond as choose};
 ghost use Rattle.std.specs.Option.{ForSome};
-ghost use Rattle.ground_task.specs.Plain.{is_plain_condition, is_plain_constant, is_plain_operand};
+ghost use Rattle.num_ends.specs.Arithmetic.{SumFits};
+ghost use Rattle.num_ends.specs.declared.ends.End.{End};
+ghost use Rattle.num_ends.specs.Decimal.{number_at, Decimal, product_of, sum_of, InRange, IsDec};
 ghost use Rattle.ground_task.specs.Valid.{right_side};
-ghost use Rattle.ground_task.specs.declared.raw.GCond.{out-GCond};
-ghost use Rattle.ground_task.specs.declared.raw.Ground.{Ground};
-ghost use Rattle.box_model.specs.Demands.{bound_end, cap_end, cap_of, constant_of, covers, effect_cap, end_by, exchanged, innermost, moved_bound, moved_end_layer, moved_ends, reads, side_of, top_conjuncts};
+ghost use Rattle.ground_task.specs.Ranged.{top_conjuncts};
+ghost use Rattle.box_model.specs.Boxes.{IsEndFor};
+ghost use Rattle.box_model.specs.Caps.{growth_of, side_of, IsCap, IsEffectCap, IsTightest};
+ghost use Rattle.box_model.specs.Demands.{bound_end, bounds_of, constant_of, covers, end_by, exchanged, half, infinity, is_finite, moved_bound, moved_end, reads};
 
 use ground_task::{Change, GCond, GExpr, Rel, Task};
 use num_ends::{Dec, End};
@@ -19,6 +21,40 @@ use std::slice;
 pub enum Side {
     Upper,
     Lower,
+}
+
+impl Side {
+    /// The infinite end of this side.
+    fn infinity(self) -> End
+        ensures { result ≡ infinity self }
+    {
+        match self {
+            Side::Upper => End::PosInf,
+            Side::Lower => End::NegInf,
+        }
+    }
+
+    /// The end of this side that each other is as far out as.
+    pub(crate) fn innermost(self) -> End
+        ensures covered { (e : End) → covers self e result ≡ true }
+        ensures fits { (q : ℕ) → IsEndFor q result }
+    {
+        match self {
+            Side::Upper => End::NegInf,
+            Side::Lower => End::PosInf,
+        }
+    }
+
+    /// Of two ends of this side, the inner one.
+    fn inner(self, a: End, b: End) -> End
+        ensures { result ≡ choose (covers self a b) b a }
+    {
+        let a_covers = match self {
+            Side::Upper => a.upper_covers(&b),
+            Side::Lower => a.lower_covers(&b),
+        };
+        if a_covers { b } else { a }
+    }
 }
 
 /// The same comparison with its sides exchanged.
@@ -66,36 +102,58 @@ fn reads(x: u32, expr: &GExpr) -> bool
     }
 }
 
-/// The bound `k` moved by `c`, where the sum is in range.
-fn moved_bound(q: u8, c: Dec, k: Dec) -> Option<Dec>
-    requires no_places { q ≡ 0 }
-    requires whole { c.p ≡ 0 }
-    requires other_whole { k.p ≡ 0 }
-    ensures { result ≡ moved_bound q c k }
+/// The sum of two decimals, where it and both at the larger count of places are in range.
+fn sum(a: Dec, b: Dec) -> Option<Dec>
+    ensures { MatchOption result (SumFits a b → ⊥) (λ d. (d ≡ sum_of a b) × SumFits a b) }
 {
-    let n = k.n.checked_add(c.n)?;
-    if n == i128::MIN {
-        return None;
+    match a.add(b) {
+        Ok(d) => Some(d),
+        Err(_) => None,
     }
-    Some(Dec { n, p: 0 })
 }
 
-/// Of two ends of a side, the inner one.
-fn inner(side: Side, a: End, b: End) -> End
-    ensures { result ≡ choose (covers side a b) b a }
+/// Half of a decimal, where it is in range.
+fn half_of(c: Dec) -> Option<Dec>
+    ensures { MatchOption result (IsDec (product_of c half) → ⊥) (λ d. d ≡ product_of c half) }
 {
-    let a_covers = match side {
-        Side::Upper => a.upper_covers(&b),
-        Side::Lower => a.lower_covers(&b),
-    };
-    if a_covers { b } else { a }
+    match c.mul(Dec { n: 5, p: 1 }) {
+        Ok(d) => Some(d),
+        Err(_) => None,
+    }
+}
+
+/// A bound moved by `c`, which has no more places, where that is in range at the bound's places. There `c` itself may leave
+/// the range; so, where it has fewer places, its half is added twice.
+fn moved_by(bound: Dec, c: Dec) -> Option<Dec>
+    requires { c.p ≤ bound.p }
+    ensures { MatchOption result (InRange (bound.n +ℤ number_at bound.p c) → ⊥) (λ d. (d ≡ record { n = bound.n +ℤ number_at bound.p c; p = bound.p }) × InRange (bound.n +ℤ number_at bound.p c)) }
+{
+    if c.p == bound.p {
+        return sum(bound, c);
+    }
+    let half = half_of(c)?;
+    let halfway = sum(bound, half)?;
+    sum(halfway, half)
+}
+
+/// The bound `k` moved by `c`, where neither has more than `q` places, and neither `k` nor the sum leaves the range there.
+fn moved_bound(q: u8, c: Dec, k: Dec) -> Option<Dec>
+    requires few { q ≤ 18 }
+    ensures { result ≡ moved_bound q c k }
+{
+    let (bound, by) = (k.trim(), c.trim());
+    if q < bound.p || q < by.p {
+        return None;
+    }
+    match bound.align(q) {
+        Ok(aligned) => moved_by(aligned, by),
+        Err(_) => None,
+    }
 }
 
 /// The end that a comparison with a constant gives, the constant moved by `c`.
 fn bound_end(side: Side, q: u8, rel: Rel, c: Dec, other: &GExpr) -> Option<End>
-    requires no_places { q ≡ 0 }
-    requires whole { c.p ≡ 0 }
-    requires plain { IsTrue (is_plain_operand other.now) }
+    requires few { q ≤ 18 }
     ensures { result ≡ bound_end side q rel c (constant_of other.now) }
 {
     match other {
@@ -106,10 +164,8 @@ fn bound_end(side: Side, q: u8, rel: Rel, c: Dec, other: &GExpr) -> Option<End>
 
 /// The end that a conjunct gives after a change of the fluent by `c`.
 fn moved_end(side: Side, q: u8, x: u32, c: Dec, cond: &GCond) -> Option<End>
-    requires no_places { q ≡ 0 }
-    requires whole { c.p ≡ 0 }
-    requires plain { IsTrue (is_plain_condition cond.now) }
-    ensures { result ≡ moved_end_layer side q x c (out-GCond cond.now) }
+    requires few { q ≤ 18 }
+    ensures { result ≡ moved_end side q x c cond.now }
 {
     match cond {
         GCond::Cmp(rel, left, right) => {
@@ -137,33 +193,31 @@ fn conjuncts(cond: &GCond) -> &[GCond]
     }
 }
 
-/// The tightest end of this side that one of the conditions gives after a change of the fluent by `c`.
-fn tightest_of(side: Side, q: u8, x: u32, c: Dec, conds: &[GCond]) -> Option<End>
-    requires no_places { q ≡ 0 }
-    requires whole { c.p ≡ 0 }
-    requires plain { IsTrue (list_all is_plain_condition conds.now) }
-    ensures { result ≡ innermost side (filter_map (λ g. moved_end_layer side q x c (out-GCond g)) conds.now) }
+/// The tightest of the infinite end of this side and those that the conditions give after a change of the fluent by `c`.
+fn tightest_of(side: Side, q: u8, x: u32, c: Dec, conds: &[GCond]) -> End
+    requires few { q ≤ 18 }
+    ensures { IsTightest side (infinity side ∷ filter_map (moved_end side q x c) conds.now) result }
 {
-    let mut best = None;
+    let mut best = side.infinity();
     'each: for cond in conds {
         if let Some(end) = moved_end(side, q, x, c, cond) {
-            best = match best {
-                None => Some(end),
-                Some(other) => Some(inner(side, other, end)),
-            };
+            best = side.inner(best, end);
         }
     }
     best
 }
 
-/// The tightest end of this side that a top conjunct gives after a change of the fluent by `c`.
-fn tightest(side: Side, q: u8, x: u32, c: Dec, pre: &GCond) -> Option<End>
-    requires no_places { q ≡ 0 }
-    requires whole { c.p ≡ 0 }
-    requires plain { IsTrue (is_plain_condition pre.now) }
-    ensures { result ≡ innermost side (moved_ends side q x c pre.now) }
+/// The tightest of the infinite end of this side and those that the bounds of a precondition give after the fluent grows by
+/// an expression.
+pub(crate) fn tightest(task: &Task, pre: &GCond, fluent: u32, expr: &GExpr, side: Side) -> End
+    requires known { fluent < length task.now.raw.fluents }
+    ensures tightest { IsTightest side (infinity side ∷ bounds_of task.now.places pre.now fluent expr.now side) result }
+    ensures fits { IsEndFor (slice_index_or task.now.places fluent 0) result }
 {
-    tightest_of(side, q, x, c, conjuncts(pre))
+    match constant_of(expr) {
+        Some(c) => tightest_of(side, task.places(fluent), fluent, c, conjuncts(pre)),
+        None => side.infinity(),
+    }
 }
 
 /// The side to which a change moves a fluent.
@@ -177,34 +231,49 @@ fn side_of(c: Dec) -> Option<Side>
     }
 }
 
-/// The cap of a growth of this fluent by an expression, under a precondition.
-pub(crate) fn growth_cap(task: &Task, pre: &GCond, fluent: u32, expr: &GExpr) -> Option<(Side, End)>
-    requires known { fluent < length task.now.raw.fluents }
-    requires plain { IsTrue (is_plain_condition pre.now) }
-    requires constant { IsTrue (is_plain_constant expr.now) }
-    ensures { result ≡ cap_of task.now.places pre.now fluent expr.now }
+/// An end that isn't infinite.
+fn finite(end: End) -> Option<End>
+    ensures { MatchOption result (is_finite end ≡ false) (λ f. (f ≡ end) × (is_finite end ≡ true)) }
 {
-    // says that the fluents have no places
-    let _raw = task.raw();
-    let c = constant_of(expr)?;
-    let side = side_of(c)?;
-    let end = tightest(side, task.places(fluent), fluent, c, pre)?;
-    Some((side, end))
+    match end {
+        End::NegInf | End::PosInf => None,
+        End::Excl(_) | End::Incl(_) => Some(end),
+    }
+}
+
+/// The side to which a change lets a fluent grow by a constant.
+fn grows_to(change: &Change) -> Option<Side>
+    ensures { MatchOption result
+        ((growth_of change.now ≡ None) ⊎ ((c : Decimal) × (growth_of change.now ≡ Some c) × (side_of c ≡ None)))
+        (λ side. (c : Decimal) × (growth_of change.now ≡ Some c) × (side_of c ≡ Some side)) }
+{
+    match change {
+        Change::Add(expr) => match constant_of(expr) {
+            Some(c) => side_of(c),
+            None => None,
+        },
+        Change::Set(_) => None,
+    }
+}
+
+/// The right-hand side of a change.
+fn right_side(change: &Change) -> &GExpr
+    ensures { result.now ≡ right_side change.now }
+{
+    match change {
+        Change::Add(expr) => expr,
+        Change::Set(expr) => expr,
+    }
 }
 
 /// The end that caps a change of this fluent under a precondition, or `None` where it has no cap.
 pub fn cap_under(task: &Task, pre: &GCond, fluent: u32, change: &Change) -> Option<End>
     requires known { fluent < length task.now.raw.fluents }
-    requires plain { IsTrue (is_plain_condition pre.now) }
-    requires constant { IsTrue (is_plain_constant (right_side change.now)) }
-    ensures { result ≡ cap_end task.now.places pre.now fluent change.now }
+    ensures { MatchOption result ((end : End) → IsCap task.now.places pre.now fluent change.now end → ⊥) (IsCap task.now.places pre.now fluent change.now) }
 {
-    match change {
-        Change::Add(expr) => {
-            let (_, end) = growth_cap(task, pre, fluent, expr)?;
-            Some(end)
-        }
-        Change::Set(_) => None,
+    match grows_to(change) {
+        Some(side) => finite(tightest(task, pre, fluent, right_side(change), side)),
+        None => None,
     }
 }
 
@@ -214,7 +283,7 @@ pub fn cap_under(task: &Task, pre: &GCond, fluent: u32, change: &Change) -> Opti
 pub fn cap_of(task: &Task, action: u32, effect: u32) -> Option<End>
     requires known_action { action < length task.now.raw.actions }
     requires known_effect { ForSome (slice_get task.now.raw.actions action) (λ a. effect < length a.nums) }
-    ensures { result ≡ effect_cap task.now action effect }
+    ensures { MatchOption result ((end : End) → IsEffectCap task.now action effect end → ⊥) (IsEffectCap task.now action effect) }
 {
     let ground = &task.raw().actions.as_slice()[action as usize];
     let (fluent, change) = &ground.nums.as_slice()[effect as usize];

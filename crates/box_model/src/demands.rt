@@ -1,64 +1,41 @@
 //! What actions demand of a box.
 
-ghost use Rattle.std.specs.Prelude.{◌≡◌, ◌<◌, ◌==◌, ◌||◌, ◌&&◌, ◌↔◌, not, true, false, length, position, slice_index_or, ℕ, None, IsNone, IsTrue};
+ghost use Rattle.std.specs.Prelude.{◌≡◌, ◌<◌, ◌≤◌, ◌==◌, ◌||◌, ◌&&◌, ◌↔◌, not, true, false, length, position, slice_index_or, ℕ, None, IsNone, IsTrue};
 ghost use Rattle.std.specs.List.{list_all, list_any};
-ghost use Rattle.num_ends.specs.Ends.{point_of};
-ghost use Rattle.num_ends.specs.Decimal.{origin};
-ghost use Rattle.ground_task.specs.Plain.{is_plain_condition, is_plain_constant, IsPlainAction};
+ghost use Rattle.num_ends.specs.Decimal.{trimmed};
+ghost use Rattle.num_ends.specs.Ends.{is_within, point_of, Interval};
+ghost use Rattle.ground_task.specs.Placed.{places_of, IsPlacedAction};
 ghost use Rattle.ground_task.specs.Valid.{is_known_expression, right_side, IsValidAction};
-ghost use Rattle.box_model.specs.Boxes.{fact_in, fluent_in, may_be, IsBoxOf};
+ghost use Rattle.box_model.specs.Boxes.{fact_in, fluent_in, may_be, AreEndsFor, IsBoxOf, IsEndFor};
 ghost use Rattle.box_model.specs.Hold.{interval_of, read_interval};
-ghost use Rattle.box_model.specs.Demands.{constant_of, covers, end_on, is_closed, is_infinite, is_unmet, meets, meets_change, meets_growth, meets_value};
+ghost use Rattle.box_model.specs.Demands.{bounds_of, covers, end_on, implies, is_closed, is_unmet, meets, meets_change, meets_demand, meets_growth, meets_value, reaches};
 
-use crate::caps::{Side, constant_of, growth_cap};
+use crate::caps::{Side, constant_of, tightest};
 use crate::state_box::StateBox;
 use ground_task::{Change, GCond, GExpr, Ground, Task};
 use num_ends::{Dec, End, Interval};
 
-fn is_infinite(end: End) -> bool
-    ensures { result ≡ is_infinite end }
+/// The end of this side that a growth of a fluent by an expression demands, where it may move the fluent that way.
+fn asked(task: &Task, pre: &GCond, fluent: u32, expr: &GExpr, side: Side, may_move: bool) -> End
+    requires known { fluent < length task.now.raw.fluents }
+    ensures asked { (i : Interval) → implies may_move (reaches side (bounds_of task.now.places pre.now fluent expr.now side) i) ≡ covers side (end_on side i) result }
+    ensures fits { IsEndFor (slice_index_or task.now.places fluent 0) result }
 {
-    matches!(end, End::NegInf | End::PosInf)
-}
-
-/// Whether the first end is as far out as the second on this side.
-fn covers(side: Side, first: End, second: End) -> bool
-    ensures { result ≡ covers side first second }
-{
-    match side {
-        Side::Upper => first.upper_covers(&second),
-        Side::Lower => first.lower_covers(&second),
+    if may_move {
+        tightest(task, pre, fluent, expr, side)
+    } else {
+        side.innermost()
     }
 }
 
-fn end_on(side: Side, interval: Interval) -> End
-    ensures { result ≡ end_on side interval }
+/// The ends that an assigned constant demands.
+fn point(c: Dec) -> (End, End)
+    ensures value { result ≡ point_of c }
+    ensures fits { (q : ℕ) → (trimmed c).p ≤ q → AreEndsFor q result }
 {
-    match side {
-        Side::Upper => interval.upper(),
-        Side::Lower => interval.lower(),
-    }
-}
-
-fn meets_growth(cap: Option<(Side, End)>, interval: Interval, by: Interval) -> bool
-    ensures { result ≡ meets_growth cap interval by }
-{
-    match cap {
-        Some((side, end)) => covers(side, end_on(side, interval), end),
-        None => {
-            let still = Interval::point(Dec { n: 0, p: 0 });
-            (!still.may_less(by) || is_infinite(interval.upper()))
-                && (!by.may_less(still) || is_infinite(interval.lower()))
-        }
-    }
-}
-
-/// Where no constant is assigned: whether the interval reaches as far as the value, whatever it is.
-fn meets_any_value(interval: Interval, read: Interval, to: Interval) -> bool
-    ensures { (q : ℕ) → read ≡ read_interval q interval → result ≡ meets_value None q interval to }
-{
-    (!read.may_less(to) || is_infinite(interval.upper()))
-        && (!to.may_less(read) || is_infinite(interval.lower()))
+    // in range, as that of each `Dec`
+    let _number = c.n;
+    (End::Incl(c), End::Incl(c))
 }
 
 /// Whether a fact is listed.
@@ -81,19 +58,65 @@ impl StateBox {
         dels.iter().all(|fact| self.fact(*fact).may_be(false) || is_listed(adds, *fact))
     }
 
-    fn meets_assigned(&self, task: &Task, fluent: u32, expr: &GExpr) -> bool
+    /// The ends to which a growth of a fluent by an expression sends its interval.
+    fn grown(&self, task: &Task, pre: &GCond, fluent: u32, expr: &GExpr) -> (End, End)
         requires a_box { IsBoxOf task.now self.now }
         requires fluent { fluent < length task.now.raw.fluents }
         requires expression { IsTrue (is_known_expression (length task.now.raw.fluents) expr.now) }
-        ensures { result ≡ meets_value (constant_of expr.now) (slice_index_or task.now.places fluent 0) (fluent_in self.now fluent) (interval_of task.now.places self.now expr.now) }
+        requires few { places_of task.now.places expr.now ≤ 18 }
+        ensures asked { (i : Interval) → meets_growth (bounds_of task.now.places pre.now fluent expr.now) (interval_of task.now.places self.now expr.now) i ≡ is_within result i }
+        ensures fits { AreEndsFor (slice_index_or task.now.places fluent 0) result }
     {
-        let interval = self.fluent(fluent);
-        match constant_of(expr) {
-            Some(c) => interval.has(c),
-            None => {
-                let read = self.read(task, fluent);
-                meets_any_value(interval, read, self.interval_of(task, expr))
-            }
+        let still = Interval::point(Dec { n: 0, p: 0 });
+        let by = self.interval_of(task, expr);
+        (
+            asked(task, pre, fluent, expr, Side::Lower, by.may_less(still)),
+            asked(task, pre, fluent, expr, Side::Upper, still.may_less(by)),
+        )
+    }
+
+    /// The ends to which an assignment of an expression that isn't constant sends the interval of a fluent.
+    fn assigned(&self, task: &Task, fluent: u32, expr: &GExpr) -> (End, End)
+        requires a_box { IsBoxOf task.now self.now }
+        requires fluent { fluent < length task.now.raw.fluents }
+        requires expression { IsTrue (is_known_expression (length task.now.raw.fluents) expr.now) }
+        requires few { places_of task.now.places expr.now ≤ 18 }
+        ensures asked { (i : Interval) → meets_value None (read_interval (slice_index_or task.now.places fluent 0) (fluent_in self.now fluent)) (interval_of task.now.places self.now expr.now) i ≡ is_within result i }
+        ensures fits { AreEndsFor (slice_index_or task.now.places fluent 0) result }
+    {
+        let had = self.read(task, fluent);
+        let to = self.interval_of(task, expr);
+        let lower = if to.may_less(had) {
+            End::NegInf
+        } else {
+            End::PosInf
+        };
+        let upper = if had.may_less(to) {
+            End::PosInf
+        } else {
+            End::NegInf
+        };
+        (lower, upper)
+    }
+
+    /// The ends that a change of a fluent demands of the fluent's interval in this box: an interval meets the demand where
+    /// its lower end is as far out as the first, and its upper end as far out as the second. `PosInf` as the first demands
+    /// nothing, and so does `NegInf` as the second.
+    pub fn demanded(&self, task: &Task, pre: &GCond, fluent: u32, change: &Change) -> (End, End)
+        requires a_box { IsBoxOf task.now self.now }
+        requires fluent { fluent < length task.now.raw.fluents }
+        requires expression { IsTrue (is_known_expression (length task.now.raw.fluents) (right_side change.now)) }
+        requires few { places_of task.now.places (right_side change.now) ≤ slice_index_or task.now.places fluent 0 }
+        ensures asked { (i : Interval) → meets_demand task.now.places self.now pre.now fluent change.now i ≡ is_within result i }
+        ensures fits { AreEndsFor (slice_index_or task.now.places fluent 0) result }
+    {
+        let _few = task.places(fluent);
+        match change {
+            Change::Add(expr) => self.grown(task, pre, fluent, expr),
+            Change::Set(expr) => match constant_of(expr) {
+                Some(c) => point(c),
+                None => self.assigned(task, fluent, expr),
+            },
         }
     }
 
@@ -101,23 +124,18 @@ impl StateBox {
         requires a_box { IsBoxOf task.now self.now }
         requires fluent { fluent < length task.now.raw.fluents }
         requires expression { IsTrue (is_known_expression (length task.now.raw.fluents) (right_side change.now)) }
-        requires plain { IsTrue (is_plain_condition pre.now) }
-        requires constant { IsTrue (is_plain_constant (right_side change.now)) }
+        requires few { places_of task.now.places (right_side change.now) ≤ slice_index_or task.now.places fluent 0 }
         ensures { result ≡ meets_change task.now.places self.now pre.now fluent change.now }
     {
-        match change {
-            Change::Add(expr) => {
-                let cap = growth_cap(task, pre, fluent, expr);
-                meets_growth(cap, self.fluent(fluent), self.interval_of(task, expr))
-            }
-            Change::Set(expr) => self.meets_assigned(task, fluent, expr),
-        }
+        let (lower, upper) = self.demanded(task, pre, fluent, change);
+        let interval = self.fluent(fluent);
+        interval.lower().lower_covers(&lower) && interval.upper().upper_covers(&upper)
     }
 
     fn meets_nums(&self, task: &Task, action: &Ground) -> bool
         requires a_box { IsBoxOf task.now self.now }
         requires valid { IsValidAction (length task.now.raw.facts) (length task.now.raw.fluents) action.now }
-        requires plain { IsPlainAction action.now }
+        requires placed { IsPlacedAction task.now.places action.now }
         ensures { result ≡ list_all (λ effect. meets_change task.now.places self.now action.now.pre effect.0 effect.1) action.now.nums }
     {
         'each: for (fluent, change) in action.nums.as_slice() {
@@ -131,7 +149,7 @@ impl StateBox {
     fn meets(&self, task: &Task, action: &Ground) -> bool
         requires a_box { IsBoxOf task.now self.now }
         requires valid { IsValidAction (length task.now.raw.facts) (length task.now.raw.fluents) action.now }
-        requires plain { IsPlainAction action.now }
+        requires placed { IsPlacedAction task.now.places action.now }
         ensures { result ≡ meets task.now.places self.now action.now }
     {
         let adds = action.adds.as_slice();
@@ -143,7 +161,7 @@ impl StateBox {
     fn is_unmet(&self, task: &Task, action: &Ground) -> bool
         requires a_box { IsBoxOf task.now self.now }
         requires valid { IsValidAction (length task.now.raw.facts) (length task.now.raw.fluents) action.now }
-        requires plain { IsPlainAction action.now }
+        requires placed { IsPlacedAction task.now.places action.now }
         ensures { result ≡ is_unmet task.now.places self.now action.now }
     {
         self.admits(task, &action.pre) && !self.meets(task, action)

@@ -4,7 +4,6 @@
 ghost use Rattle.std.specs.Prelude.{ℕ, List, IsTrue};
 ghost use Rattle.ground_task.specs.declared.raw.GCond.{GCond};
 ghost use Rattle.ground_task.specs.Meaning.{holds};
-ghost use Rattle.ground_task.specs.Plain.{IsPlain};
 ghost use Rattle.ground_task.specs.States.{StateValue};
 ghost use Rattle.ground_task.specs.Steps.{StepLeads, PlanLeads, IsPlanFrom};
 ghost use Rattle.ground_task.specs.Tasks.{TaskValue};
@@ -31,21 +30,21 @@ pub fn wider_boxes_hold_more()
 /// A step from a state in a closed box leads into the box.
 pub fn steps_stay_in_closed_boxes()
     ensures { (t : TaskValue) (b : StateBox) (s next : StateValue) (number : ℕ)
-        → IsPlain t.raw t.places → IsBoxOf t b → IsTrue (is_closed t b) → Contains t.places b s
+        → IsBoxOf t b → IsTrue (is_closed t b) → Contains t.places b s
         → StepLeads t number s next → Contains t.places b next }
 {}
 
 /// A list of actions from a state in a closed box leads into the box.
 pub fn plans_stay_in_closed_boxes()
     ensures { (t : TaskValue) (b : StateBox) (s last : StateValue) (numbers : List ℕ)
-        → IsPlain t.raw t.places → IsBoxOf t b → IsTrue (is_closed t b) → Contains t.places b s
+        → IsBoxOf t b → IsTrue (is_closed t b) → Contains t.places b s
         → PlanLeads t numbers s last → Contains t.places b last }
 {}
 
 /// No list of actions leads from a state in a dead box to the goal.
 pub fn dead_boxes_have_no_plan()
     ensures { (t : TaskValue) (b : StateBox) (s : StateValue) (numbers : List ℕ)
-        → IsPlain t.raw t.places → IsDead t b → Contains t.places b s
+        → IsDead t b → Contains t.places b s
         → IsPlanFrom t s numbers → ⊥ }
 {}
 
@@ -53,4 +52,10 @@ pub fn dead_boxes_have_no_plan()
 pub fn least_boxes_in_dead_ones_are_dead()
     ensures { (t : TaskValue) (b c : StateBox) (s : StateValue)
         → IsLeastClosed t s b → IsDead t c → Contains t.places c s → IsDead t b }
+{}
+
+/// Two least closed boxes of one state lie within each other.
+pub fn least_boxes_lie_within_each_other()
+    ensures { (t : TaskValue) (b c : StateBox) (s : StateValue)
+        → IsLeastClosed t s b → IsLeastClosed t s c → LiesWithin b c }
 {}

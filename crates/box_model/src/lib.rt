@@ -13,6 +13,7 @@ mod states;
 pub use caps::{Side, cap_of, cap_under};
 pub use laws::{
     dead_boxes_have_no_plan, held_conditions_may_hold, least_boxes_in_dead_ones_are_dead,
-    plans_stay_in_closed_boxes, steps_stay_in_closed_boxes, wider_boxes_hold_more,
+    least_boxes_lie_within_each_other, plans_stay_in_closed_boxes, steps_stay_in_closed_boxes,
+    wider_boxes_hold_more,
 };
 pub use state_box::{May, StateBox};

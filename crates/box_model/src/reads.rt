@@ -67,8 +67,6 @@ impl StateBox {
         requires known { fluent < length task.now.raw.fluents }
         ensures { result ≡ read_interval (slice_index_or task.now.places fluent 0) (fluent_in self.now fluent) }
     {
-        // says that the fluents have no places
-        let _raw = task.raw();
         read_at(self.fluent(fluent), task.places(fluent))
     }
 }

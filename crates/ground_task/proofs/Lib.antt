@@ -1,5 +1,17 @@
+pub mod Agreement
+pub mod Bounded
+pub mod NewValues
+pub mod Conjuncts
+pub mod Evaluable
 pub mod FirstState
+pub mod Layers
+pub mod Numbers
 pub mod PackedBits
 pub mod PackedOrder
+pub mod Places
+pub mod Ranges
 pub mod SameStates
+pub mod StateNumbers
+pub mod StepAnswers
 pub mod Trees
+pub mod Truths

@@ -1,13 +1,14 @@
 -- What packed bits give back, and how a bit of them is set.
-use Rattle.std.proofs.Common.{◌≡◌, ◌≢◌, ℕ, ◌+◌, ◌-◌, ◌*◌, ◌/◌, ◌%◌, ◌^◌, ◌<◌, ◌==◌, zero, suc, Bool, true, false, List, [], ◌∷◌, length, drop, get_or, set, replicate, bit_and, bit_or, inl, inr, refl, sym, ap, ◌∙◌, arith}
-use Rattle.std.specs.Int.{bit_at, div_ceil, w64}
-use Rattle.std.proofs.lemmas.List.{ext_get_or, get_or-drop, get_or-set_same, get_or-set_other, length-set, length-replicate, get_or_read, drop-replicate, drop-drop}
+use Rattle.std.proofs.Common.{◌≡◌, ◌≢◌, ℕ, ◌+◌, ◌-◌, ◌*◌, ◌/◌, ◌%◌, ◌^◌, ◌<◌, ◌==◌, zero, suc, Bool, true, false, List, [], ◌∷◌, length, ◌++◌, drop, take, get_or, set, replicate, bit_and, bit_or, inl, inr, refl, sym, ap, ◌∙◌, arith}
+use Rattle.std.specs.Int.{bit_at, bit_not, div_ceil, w64}
+use Rattle.std.proofs.lemmas.List.{ext_get_or, get_or-drop, get_or-set_same, get_or-set_other, length-set, length-replicate, get_or_read, drop-replicate, drop-drop, drop_all, take_all, append-nil}
 use Rattle.std.proofs.lemmas.List.FromFn.{fill_by_all, length-map-range_with_len}
 use Rattle.std.proofs.lemmas.Bool.{cases_eq}
 use Rattle.std.proofs.lemmas.Grind.{get_or-set_at}
 use Rattle.std.proofs.lemmas.Nat.{or_lt, pow_pos}
+use Rattle.std.specs.Int.Bits.{and_le_l}
 use Rattle.std.proofs.Math.Nat.{pow-suc}
-use Rattle.std.proofs.lemmas.Nat.Bits.{bit_at-zero, bit_at_cat_low, bit_at_cat_high, bit_at_set_same, bit_at_set_other, same_from_bits_below, shr_and_one}
+use Rattle.std.proofs.lemmas.Nat.Bits.{bit_at-zero, bit_at_cat_low, bit_at_cat_high, bit_at_clear_same, bit_at_clear_other, bit_at_set_same, bit_at_set_other, same_from_bits_below, shr_and_one}
 use Rattle.ground_task.specs.Packed.{bit_number, bit_of, leading_number, packed, unpacked, words_of, IsPacked}
 
 -- the number of so many bits fits into them
@@ -156,59 +157,96 @@ set_bit word n = bit_or word (1 * 2 ^ (63 - n % 64) % 2 ^ 64)
 set_bit-lt : (word n : ℕ) → word < 2 ^ 64 → set_bit word n < 2 ^ 64
 set_bit-lt word n fits = or_lt 64 word (1 * 2 ^ (63 - n % 64) % 2 ^ 64) fits (omega arith)
 
--- the bits of a word of the one list, with this truth value at a place, are those of the word of the other
-bit_at-set_word : (bits : List Bool) (n j i : ℕ) → n < length bits → i + j + 1 ≡ 64 → bit_at (set_bit (get_or (packed bits) (n / 64) 0) n) i ≡ bit_number (get_or (set bits n true) (64 * (n / 64) + j) false)
-bit_at-set_word bits n j i within e =
-    elim (cases_eq i (63 - n % 64)) [
-      | inl same ↦
-          let place : 64 * (n / 64) + j ≡ n = omega arith in
-          rw (same, place, get_or-set_same bits n true false within) (bit_at_set_same w64 (get_or (packed bits) (n / 64) 0) (63 - n % 64) (omega arith))
-      | inr other ↦
-          let elsewhere : 64 * (n / 64) + j ≢ n = λ h. other (omega arith) in
-          bit_at_set_other w64 (get_or (packed bits) (n / 64) 0) (63 - n % 64) (omega arith) i other
-          ∙ bit_at-packed bits (n / 64) j i (word-lt (length bits) n within) e
-          ∙ ap bit_number (sym (get_or-set_other bits n (64 * (n / 64) + j) true false elsewhere))
-    ]
+-- a word after a bit is cleared
+abbrev clear_bit : ℕ → ℕ → ℕ
+clear_bit word n = bit_and word (bit_not w64 (1 * 2 ^ (63 - n % 64) % 2 ^ 64))
 
--- each word after a bit is set
-word-set : (bits : List Bool) (n k : ℕ) → n < length bits → k < div_ceil (length bits) 64 → get_or (set (packed bits) (n / 64) (set_bit (get_or (packed bits) (n / 64) 0) n)) k 0 ≡ get_or (packed (set bits n true)) k 0
-word-set bits n k within k_within =
-    let n_within : n / 64 < div_ceil (length bits) 64 = word-lt (length bits) n within in
-    let as_many : length (set bits n true) ≡ length bits = length-set bits n true in
-    let set_within : k < div_ceil (length (set bits n true)) 64 = rw as_many k_within in
-    let bits_after : (j i : ℕ) → i + j + 1 ≡ 64 → bit_at (get_or (packed (set bits n true)) k 0) i ≡ bit_number (get_or (set bits n true) (64 * k + j) false) = λ j i. bit_at-packed (set bits n true) k j i set_within in
-    elim (cases_eq k (n / 64)) [
-      | inl same ↦
-          let here = get_or-set_at (packed bits) (n / 64) k (set_bit (get_or (packed bits) (n / 64) 0) n) 0 same (omega (arith, length-packed bits)) in
-          here
-          ∙ same_from_bits_below 64 _ _ (set_bit-lt _ n (packed-lt bits (n / 64) n_within)) (packed-lt (set bits n true) k set_within)
-          (λ i below. bit_at-set_word bits n (63 - i) i within (omega arith)
-          ∙ ap (λ (m : ℕ). bit_number (get_or (set bits n true) (64 * m + (63 - i)) false)) (sym same)
-          ∙ sym (bits_after (63 - i) i (omega arith)))
-      | inr other ↦
-          get_or-set_other (packed bits) (n / 64) k (set_bit (get_or (packed bits) (n / 64) 0) n) 0 other
-          ∙ same_from_bits_below 64 _ _ (packed-lt bits k k_within) (packed-lt (set bits n true) k set_within)
-          (λ i below.
-          let elsewhere : 64 * k + (63 - i) ≢ n = λ h. other (omega arith) in
-          bit_at-packed bits k (63 - i) i k_within (omega arith)
-          ∙ ap bit_number (sym (get_or-set_other bits n (64 * k + (63 - i)) true false elsewhere))
-          ∙ sym (bits_after (63 - i) i (omega arith)))
-    ]
+clear_bit-lt : (word n : ℕ) → word < 2 ^ 64 → clear_bit word n < 2 ^ 64
+clear_bit-lt word n fits = omega (arith, and_le_l word (bit_not w64 (1 * 2 ^ (63 - n % 64) % 2 ^ 64)))
 
--- setting a bit of packed bits packs the list with that truth value
-pub packed-set : (bits : List Bool) (n : ℕ) → n < length bits → set (packed bits) (n / 64) (set_bit (get_or (packed bits) (n / 64) 0) n) ≡ packed (set bits n true)
-packed-set bits n within =
-    let as_many : length (set (packed bits) (n / 64) (set_bit (get_or (packed bits) (n / 64) 0) n)) ≡ div_ceil (length bits) 64 = length-set (packed bits) (n / 64) _ ∙ length-packed bits in
-    let others : length (packed (set bits n true)) ≡ div_ceil (length bits) 64 = length-packed (set bits n true) ∙ ap (λ (m : ℕ). div_ceil m 64) (length-set bits n true) in
-    ext_get_or 0 _ _ (as_many ∙ sym others) (λ k k_within. word-set bits n k within (omega (arith, as_many)))
+-- a change of the bit of one number to a truth value
+module _ (truth : Bool) (changed : ℕ → ℕ → ℕ) (small : (word n : ℕ) → word < 2 ^ 64 → changed word n < 2 ^ 64) (here : (word n : ℕ) → bit_at (changed word n) (63 - n % 64) ≡ bit_number truth) (there : (word n i : ℕ) → i < 64 → i ≢ 63 - n % 64 → bit_at (changed word n) i ≡ bit_at word i) where
+  -- the bits of a word of the one list, with this truth value at a place, are those of the word of the other
+  bit_at-changed_word : (bits : List Bool) (n j i : ℕ) → n < length bits → i + j + 1 ≡ 64 → bit_at (changed (get_or (packed bits) (n / 64) 0) n) i ≡ bit_number (get_or (set bits n truth) (64 * (n / 64) + j) false)
+  bit_at-changed_word bits n j i within e =
+      elim (cases_eq i (63 - n % 64)) [
+        | inl same ↦
+            let place : 64 * (n / 64) + j ≡ n = omega arith in
+            rw (same, place, get_or-set_same bits n truth false within) (here (get_or (packed bits) (n / 64) 0) n)
+        | inr other ↦
+            let elsewhere : 64 * (n / 64) + j ≢ n = λ h. other (omega arith) in
+            there (get_or (packed bits) (n / 64) 0) n i (omega arith) other
+            ∙ bit_at-packed bits (n / 64) j i (word-lt (length bits) n within) e
+            ∙ ap bit_number (sym (get_or-set_other bits n (64 * (n / 64) + j) truth false elsewhere))
+      ]
+
+  -- each word after the change
+  word-changed : (bits : List Bool) (n k : ℕ) → n < length bits → k < div_ceil (length bits) 64 → get_or (set (packed bits) (n / 64) (changed (get_or (packed bits) (n / 64) 0) n)) k 0 ≡ get_or (packed (set bits n truth)) k 0
+  word-changed bits n k within k_within =
+      let n_within : n / 64 < div_ceil (length bits) 64 = word-lt (length bits) n within in
+      let as_many : length (set bits n truth) ≡ length bits = length-set bits n truth in
+      let set_within : k < div_ceil (length (set bits n truth)) 64 = rw as_many k_within in
+      let bits_after : (j i : ℕ) → i + j + 1 ≡ 64 → bit_at (get_or (packed (set bits n truth)) k 0) i ≡ bit_number (get_or (set bits n truth) (64 * k + j) false) = λ j i. bit_at-packed (set bits n truth) k j i set_within in
+      elim (cases_eq k (n / 64)) [
+        | inl same ↦
+            let at = get_or-set_at (packed bits) (n / 64) k (changed (get_or (packed bits) (n / 64) 0) n) 0 same (omega (arith, length-packed bits)) in
+            at
+            ∙ same_from_bits_below 64 _ _ (small _ n (packed-lt bits (n / 64) n_within)) (packed-lt (set bits n truth) k set_within)
+            (λ i below. bit_at-changed_word bits n (63 - i) i within (omega arith)
+            ∙ ap (λ (m : ℕ). bit_number (get_or (set bits n truth) (64 * m + (63 - i)) false)) (sym same)
+            ∙ sym (bits_after (63 - i) i (omega arith)))
+        | inr other ↦
+            get_or-set_other (packed bits) (n / 64) k (changed (get_or (packed bits) (n / 64) 0) n) 0 other
+            ∙ same_from_bits_below 64 _ _ (packed-lt bits k k_within) (packed-lt (set bits n truth) k set_within)
+            (λ i below.
+            let elsewhere : 64 * k + (63 - i) ≢ n = λ h. other (omega arith) in
+            bit_at-packed bits k (63 - i) i k_within (omega arith)
+            ∙ ap bit_number (sym (get_or-set_other bits n (64 * k + (63 - i)) truth false elsewhere))
+            ∙ sym (bits_after (63 - i) i (omega arith)))
+      ]
+
+  -- changing a bit of packed bits packs the list with that truth value
+  packed-changed : (bits : List Bool) (n : ℕ) → n < length bits → set (packed bits) (n / 64) (changed (get_or (packed bits) (n / 64) 0) n) ≡ packed (set bits n truth)
+  packed-changed bits n within =
+      let as_many : length (set (packed bits) (n / 64) (changed (get_or (packed bits) (n / 64) 0) n)) ≡ div_ceil (length bits) 64 = length-set (packed bits) (n / 64) _ ∙ length-packed bits in
+      let others : length (packed (set bits n truth)) ≡ div_ceil (length bits) 64 = length-packed (set bits n truth) ∙ ap (λ (m : ℕ). div_ceil m 64) (length-set bits n truth) in
+      ext_get_or 0 _ _ (as_many ∙ sym others) (λ k k_within. word-changed bits n k within (omega (arith, as_many)))
+
+  -- the words after the change
+  changed_words : (words : List ℕ) (count n w : ℕ) (bits : List Bool) → IsPacked words count → unpacked words count ≡ bits → n < length bits → w ≡ get_or words (n / 64) w → set words (n / 64) (changed w n) ≡ packed (set bits n truth)
+  changed_words words count n w bits is view within read =
+      let word : w ≡ get_or words (n / 64) 0 = get_or_read words (n / 64) w (word_within words count n bits is view within) read 0 in
+      ap (λ (v : ℕ). set words (n / 64) (changed v n)) word
+      ∙ ap (λ (ws : List ℕ). set ws (n / 64) (changed (get_or ws (n / 64) 0) n)) (is_packed_of words count bits is view)
+      ∙ packed-changed bits n within
+
+place-lt : (n : ℕ) → 63 - n % 64 < 64
+place-lt n = omega arith
 
 -- the words after a bit is set
 pub set_words : (words : List ℕ) (count n w : ℕ) (bits : List Bool) → IsPacked words count → unpacked words count ≡ bits → n < length bits → w ≡ get_or words (n / 64) w → set words (n / 64) (bit_or w (1 * 2 ^ (63 - n % 64) % 2 ^ 64)) ≡ packed (set bits n true)
-set_words words count n w bits is view within read =
-    let word : w ≡ get_or words (n / 64) 0 = get_or_read words (n / 64) w (word_within words count n bits is view within) read 0 in
-    ap (λ (v : ℕ). set words (n / 64) (set_bit v n)) word
-    ∙ ap (λ (ws : List ℕ). set ws (n / 64) (set_bit (get_or ws (n / 64) 0) n)) (is_packed_of words count bits is view)
-    ∙ packed-set bits n within
+set_words =
+    changed_words true set_bit set_bit-lt (λ word n. bit_at_set_same w64 word (63 - n % 64) (place-lt n))
+    (λ word n i fits other. bit_at_set_other w64 word (63 - n % 64) (place-lt n) i other)
 
-pub count_after : (words : List ℕ) (count n : ℕ) (bits : List Bool) → unpacked words count ≡ bits → count ≡ length (set bits n true)
-count_after words count n bits view = count_of words count bits view ∙ sym (length-set bits n true)
+-- the words after a bit is cleared
+pub cleared_words : (words : List ℕ) (count n w : ℕ) (bits : List Bool) → IsPacked words count → unpacked words count ≡ bits → n < length bits → w ≡ get_or words (n / 64) w → set words (n / 64) (bit_and w (bit_not w64 (1 * 2 ^ (63 - n % 64) % 2 ^ 64))) ≡ packed (set bits n false)
+cleared_words =
+    changed_words false clear_bit clear_bit-lt (λ word n. bit_at_clear_same w64 word (63 - n % 64) (place-lt n))
+    (λ word n i fits other. bit_at_clear_other w64 word (63 - n % 64) (place-lt n) i fits other)
+
+pub count_after : (words : List ℕ) (count n : ℕ) (bits : List Bool) (truth : Bool) → unpacked words count ≡ bits → count ≡ length (set bits n truth)
+count_after words count n bits truth view = count_of words count bits view ∙ sym (length-set bits n truth)
+
+-- as many bits are packed into as many words
+pub as_many_words : (ws vs : List ℕ) (m n : ℕ) (xs ys : List Bool) → IsPacked ws m → unpacked ws m ≡ xs → IsPacked vs n → unpacked vs n ≡ ys → length xs ≡ length ys → length ws ≡ length vs
+as_many_words ws vs m n xs ys a a_view b b_view same =
+    ap length (is_packed_of ws m xs a a_view) ∙ length-packed xs ∙ ap (λ (k : ℕ). div_ceil k 64) same
+    ∙ sym (ap length (is_packed_of vs n ys b b_view) ∙ length-packed ys)
+
+-- words written over as many words are what is there afterwards
+pub written_whole : (ns items : List ℕ) (n : ℕ) → length ns ≡ length items → n ≡ length items → take n (ns ++ drop (length ns) items) ≡ ns
+written_whole ns items n same count =
+    ap (λ (rest : List ℕ). take n (ns ++ rest)) (drop_all (length ns) items (omega (arith, same)))
+    ∙ ap (take n) (append-nil ns)
+    ∙ take_all n ns (omega (arith, same, count))

@@ -9,7 +9,7 @@ use Rattle.ground_task.specs.declared.raw.GExpr.TheVariants as e
 use Rattle.ground_task.specs.declared.raw.GCond.{GCond, GCond-F, fold-GCond, fold-roll-GCond, ind-GCond, map-GCond, roll-GCond}
 use Rattle.ground_task.specs.declared.raw.GCond.TheVariants as c
 use Rattle.ground_task.specs.States.{StateValue}
-use Rattle.ground_task.specs.Meaning.{holds, holds_layer}
+use Rattle.ground_task.specs.Meaning.{fact_value, fluent_value, holds, holds_layer}
 use Rattle.ground_task.specs.Plain.{is_plain_condition, plain_condition_layer}
 use Rattle.ground_task.specs.Valid.{is_known_condition, known_condition_layer}
 
@@ -59,10 +59,10 @@ fold-Or {A} layer cs = ap (fold-GCond A layer) (sym (c.rolls-Or cs)) ∙ fold-ro
 
 -- conditions of several members
 pub holds-And : (places : List ℕ) (s : StateValue) (cs : List GCond) → holds places s (c.And cs) ≡ list_all (holds places s) cs
-holds-And places s cs = fold-And (holds_layer places s) cs ∙ list_all-map (holds places s) cs
+holds-And places s cs = fold-And (holds_layer (fact_value s) (fluent_value places s)) cs ∙ list_all-map (holds places s) cs
 
 pub holds-Or : (places : List ℕ) (s : StateValue) (cs : List GCond) → holds places s (c.Or cs) ≡ list_any (holds places s) cs
-holds-Or places s cs = fold-Or (holds_layer places s) cs ∙ list_any-map (holds places s) cs
+holds-Or places s cs = fold-Or (holds_layer (fact_value s) (fluent_value places s)) cs ∙ list_any-map (holds places s) cs
 
 pub is_known-And : (facts fluents : ℕ) (cs : List GCond) → is_known_condition facts fluents (c.And cs) ≡ list_all (is_known_condition facts fluents) cs
 is_known-And facts fluents cs =

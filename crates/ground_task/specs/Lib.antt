@@ -1,8 +1,11 @@
 pub mod Bits
+pub mod Inside
 pub mod Meaning
 pub mod Orders
 pub mod Packed
+pub mod Placed
 pub mod Plain
+pub mod Ranged
 pub mod States
 pub mod Steps
 pub mod Tasks

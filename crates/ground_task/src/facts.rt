@@ -58,6 +58,24 @@ impl Facts {
         self.words[number / 64] |= 1 << (63 - number % 64);
     }
 
+    /// Makes a fact false.
+    pub fn clear(&mut self, number: usize)
+        requires known { number < length self.old }
+        ensures { self.new ≡ slice_set self.old number false }
+    {
+        self.words[number / 64] &= !(1 << (63 - number % 64));
+    }
+
+    /// Takes the truth values of as many facts over.
+    pub fn copy_from(&mut self, other: &Facts)
+        requires as_many { length self.old ≡ length other.now }
+        ensures { self.new ≡ other.now }
+    {
+        self.words
+            .as_mut_slice()
+            .copy_from_slice(other.words.as_slice());
+    }
+
     pub fn copy(&self, alloc: Global) -> Result<Facts, NoMemory>
         ensures { IfOk result (λ f. f ≡ self.now) }
     {

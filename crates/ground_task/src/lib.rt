@@ -1,6 +1,9 @@
 //! Ground tasks of a numeric planner: their data, their states and the meaning of a step.
 #![tactic(auto)]
 
+mod answers;
+mod cells;
+mod changes;
 mod copies;
 mod facts;
 mod faults;
@@ -8,12 +11,14 @@ mod first;
 pub mod laws;
 mod raw;
 mod state;
+mod steps;
 mod task;
+mod truth;
+mod values;
 
+pub use answers::{Advanced, Applied, Truth};
 pub use faults::TaskFault;
 pub use raw::{Change, GCond, GExpr, Ground, RawTask, Rel};
 pub use state::State;
+pub use steps::StateBuffer;
 pub use task::Task;
-
-#[cfg(test)]
-mod tests;

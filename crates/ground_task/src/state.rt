@@ -1,10 +1,11 @@
 //! The states of a task.
 
-ghost use Rattle.std.specs.Prelude.{◌≡◌, ◌<◌, false, length, pos, slice_index_or, All, IfOk};
+ghost use Rattle.std.specs.Prelude.{◌≡◌, ◌<◌, false, true, length, pos, slice_index_or, slice_set, All, IfOk};
 ghost use Rattle.num_ends.specs.Decimal.{InRange};
 
+use crate::cells::Cells;
 use crate::facts::Facts;
-use num_ends::{List, NoMemory};
+use num_ends::{Dec, NoMemory};
 use std::alloc::Global;
 use std::marker::Model;
 
@@ -14,7 +15,7 @@ use std::marker::Model;
 #[derive(Debug, Drop, PartialEq, Eq, PartialOrd, Ord, Hash)]
 pub struct State {
     facts: Facts,
-    values: List<i128>,
+    values: Cells<i128>,
 }
 
 impl Model for State {
@@ -39,7 +40,7 @@ impl State {
     {
         State {
             facts,
-            values: List::from_vec(values),
+            values: Cells::from_vec(values),
         }
     }
 
@@ -60,13 +61,48 @@ impl State {
         self.values.as_slice()[fluent as usize]
     }
 
+    /// Takes another state over.
+    pub(crate) fn copy_from(&mut self, other: &State)
+        requires as_many_facts { length self.old.facts ≡ length other.now.facts }
+        requires as_many_values { length self.old.values ≡ length other.now.values }
+        ensures { self.new ≡ other.now }
+    {
+        self.facts.copy_from(&other.facts);
+        self.values.copy_from(&other.values);
+    }
+
+    /// Makes a fact true.
+    pub(crate) fn add_fact(&mut self, number: u32)
+        requires known { number < length self.old.facts }
+        ensures { self.new ≡ record { facts = slice_set self.old.facts number true; values = self.old.values } }
+    {
+        self.facts.set(number as usize);
+    }
+
+    /// Makes a fact false.
+    pub(crate) fn delete_fact(&mut self, number: u32)
+        requires known { number < length self.old.facts }
+        ensures { self.new ≡ record { facts = slice_set self.old.facts number false; values = self.old.values } }
+    {
+        self.facts.clear(number as usize);
+    }
+
+    /// Gives a fluent the number of a value at the fluent's places.
+    #[tactic(auto, using(crate::proofs::FirstState::number_kept, crate::proofs::NewValues::in_range_set))]
+    pub(crate) fn set_value(&mut self, fluent: u32, value: Dec)
+        requires known { fluent < length self.old.values }
+        ensures { self.new ≡ record { facts = self.old.facts; values = slice_set self.old.values fluent value.n } }
+    {
+        self.values.set(fluent as usize, value.n);
+    }
+
     /// An equal state.
     pub fn copy(&self, alloc: Global) -> Result<State, NoMemory>
         ensures { IfOk result (λ s. s ≡ self.now) }
     {
         Ok(State {
             facts: self.facts.copy(alloc)?,
-            values: List::from_vec(Vec::from_slice(alloc, self.values.as_slice())?),
+            values: self.values.copy(alloc)?,
         })
     }
 }

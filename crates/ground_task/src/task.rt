@@ -1,8 +1,8 @@
 //! A task with the decimal places of its fluents.
 
-ghost use Rattle.std.specs.Prelude.{◌≡◌, ◌<◌, length, slice_index_or, IfOk, MatchResult, IfErr};
-ghost use Rattle.ground_task.specs.Plain.{IsPlain};
-ghost use Rattle.ground_task.specs.Tasks.{first_state, AreFirstInRange, IsCause};
+ghost use Rattle.std.specs.Prelude.{◌≡◌, ◌<◌, ◌≤◌, length, slice_index_or, IfOk, MatchResult};
+ghost use Rattle.ground_task.specs.Placed.{IsPlaced};
+ghost use Rattle.ground_task.specs.Tasks.{first_state, AreFirstInRange, IsCause, IsInitialState};
 ghost use Rattle.ground_task.specs.Valid.{IsValid};
 
 use crate::faults::TaskFault;
@@ -42,17 +42,14 @@ impl Task {
     /// `Range` names the first fluent whose first value leaves the range at its places.
     pub fn with_places(alloc: Global, raw: RawTask, places: List<u8>) -> Result<Task, TaskFault>
         requires valid { IsValid raw }
-        requires plain { IsPlain raw places }
+        requires placed { IsPlaced raw places }
         ensures made { MatchResult result
             (λ t. (t ≡ record { raw = raw; places = places }) × AreFirstInRange places raw.values (length raw.fluents))
             (λ fault. IsCause raw places fault) }
-
-        // Whole numbers fit: data without places has no such fault.
-        ensures only_memory { IfErr result (λ fault. fault ≡ TaskFault.NoMemory) }
     {
         match first_of(alloc, &raw, &places) {
             Ok(first) => Ok(Task { raw, places, first }),
-            Err(NoMemory) => Err(TaskFault::NoMemory),
+            Err(fault) => Err(fault),
         }
     }
 
@@ -60,7 +57,7 @@ impl Task {
     pub fn raw(&self) -> &RawTask
         ensures value { result.now ≡ self.now.raw }
         ensures valid { IsValid self.now.raw }
-        ensures plain { IsPlain self.now.raw self.now.places }
+        ensures placed { IsPlaced self.now.raw self.now.places }
     {
         &self.raw
     }
@@ -68,14 +65,16 @@ impl Task {
     /// The decimal places of a fluent.
     pub fn places(&self, fluent: u32) -> u8
         requires known { fluent < length self.now.raw.fluents }
-        ensures { result ≡ slice_index_or self.now.places fluent 0 }
+        ensures value { result ≡ slice_index_or self.now.places fluent 0 }
+        ensures few { result ≤ 9 }
     {
         self.places.as_slice()[fluent as usize]
     }
 
     /// The state at the start.
     pub fn first(&self) -> &State
-        ensures { result.now ≡ first_state self.now.raw self.now.places }
+        ensures value { result.now ≡ first_state self.now.raw self.now.places }
+        ensures initial { IsInitialState self.now result.now }
     {
         &self.first
     }

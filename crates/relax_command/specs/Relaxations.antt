@@ -1,6 +1,6 @@
 -- The least closed box of a pair's task, and what it says of the goal.
 use Rattle.std.specs.Prelude.{ℕ, ◌≡◌, ◌++◌, List, Bool, false, codes, map, if◌then◌else◌}
-use Rattle.ground_task.specs.Steps.{IsPlan}
+use Rattle.ground_task.specs.Steps.{IsTaskPlan}
 use Rattle.ground_task.specs.Tasks.{TaskValue, first_state}
 use Rattle.box_model.specs.Hold.{may_hold}
 use Rattle.box_model.specs.Least.{IsLeastClosed}
@@ -24,7 +24,7 @@ is_met t b = may_hold t.places b t.raw.goal
 -- the box is the least closed one above the initial state; where the goal may not hold in it, no plan exists
 pub record IsRelaxed (t : TaskValue) (b : StateBox) : Type 0 where
   pub least : IsLeastClosed t (first_state t.raw t.places) b
-  pub no_plan : is_met t b ≡ false → (numbers : List ℕ) → IsPlan t numbers → ⊥
+  pub no_plan : is_met t b ≡ false → (numbers : List ℕ) → IsTaskPlan t numbers → ⊥
 
 -- whether the goal is met or missed, and the line of the box
 abbrev pub box_answer : TaskValue → StateBox → Answer

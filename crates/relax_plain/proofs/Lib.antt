@@ -1,4 +1,9 @@
-pub mod IntervalLemmas
 pub mod BoxLemmas
 pub mod DemandLemmas
-pub mod RoundLemmas
+pub mod MarkLemmas
+pub mod Potentials
+pub mod ReaderLemmas
+pub mod SameReads
+pub mod Settling
+pub mod Spreads
+pub mod Widening

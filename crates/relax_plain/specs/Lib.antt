@@ -1,2 +1,4 @@
-pub mod Widening
-pub mod Rounds
+pub mod Marks
+pub mod Potential
+pub mod Reads
+pub mod Spread

@@ -1,8 +1,9 @@
-use Rattle.std.proofs.Common.{◌≡◌, ℕ, ◌<◌, ◌∙◌, ap, refl, sym, Some, List, get_or, slice_get, length}
+use Rattle.std.proofs.Common.{◌≡◌, ℕ, ◌<◌, ◌∙◌, ap, sym, Some, List, get_or, slice_get, length}
 use Rattle.std.proofs.lemmas.Option.{slice_get-get_or}
 use Rattle.ground_task.specs.declared.raw.Change.{Change}
 use Rattle.ground_task.specs.declared.raw.Ground.{Ground}
 use Rattle.ground_task.specs.declared.raw.RawTask.{RawTask}
+use Rattle.box_model.proofs.CapLemmas.{effect_cap}
 use Rattle.box_model.proofs.caps.cap_of.Goals as goal
 
 read_at : {X : Type 0} (xs ys : List X) (i : ℕ) (x : X) → ys ≡ xs → i < length xs → x ≡ get_or ys i x → slice_get xs i ≡ Some x
@@ -17,4 +18,4 @@ returns c =
     read_at t.raw.actions _ c.args.action a (c.as_slice.ensures ∙ ap (λ (r : RawTask). r.actions) c.raw.ensures.value) c.requires.known_action c.index-as_slice-action.is in
     let e_at : slice_get a.nums c.args.effect ≡ Some e =
     read_at a.nums _ c.args.effect e c.as_slice-2.ensures (c.requires.known_effect a a_at) c.index-as_slice-effect.is in
-    c.cap_under.ensures ∙ sym (rw (a_at, e_at) refl)
+    effect_cap t c.args.action c.args.effect a e c.cap_under.result a_at e_at c.cap_under.ensures

@@ -1,10 +1,8 @@
-use Rattle.std.proofs.Common.{◌≡◌, drop, filter_map}
-use Rattle.ground_task.specs.declared.raw.GCond.{out-GCond}
-use Rattle.box_model.specs.Demands.{innermost, moved_end_layer}
-use Rattle.box_model.proofs.CapLemmas.{innermost_from}
+use Rattle.std.proofs.Common.{◌∷◌, take, filter_map}
+use Rattle.box_model.specs.Caps.{IsTightest}
+use Rattle.box_model.specs.Demands.{infinity, moved_end}
 use Rattle.box_model.proofs.caps.tightest_of.Given as goal
 
 abbrev pub invariant-each : goal.invariant-each
 invariant-each l =
-    innermost_from l.side l.best (filter_map (λ g. moved_end_layer l.side l.q l.x l.c (out-GCond g)) (drop l.cond-index l.conds))
-    ≡ innermost l.side (filter_map (λ g. moved_end_layer l.side l.q l.x l.c (out-GCond g)) l.conds)
+    IsTightest l.side (infinity l.side ∷ filter_map (moved_end l.side l.q l.x l.c) (take l.cond-index l.conds)) l.best

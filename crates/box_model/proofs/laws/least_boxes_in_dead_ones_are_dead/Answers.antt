@@ -13,5 +13,5 @@ returns c = λ t b dead s least is inside.
       closed = least.closed;
       misses_goal = false_from_ne_true (may_hold t.places b t.raw.goal) (λ h.
           both_ways (may_hold t.places dead t.raw.goal) is.misses_goal
-          (hold_wider t.places b dead within (all_fit t b least.a_box) (all_fit t dead is.a_box) t.raw.goal h));
+          (hold_wider t.places b dead within (all_fit t b least.a_box) (all_fit t dead is.a_box) least.a_box.inhabited t.raw.goal h));
     }

@@ -5,5 +5,5 @@ use Rattle.ground_task.proofs.first.first_numbers.Given as goal
 
 abbrev pub invariant-each : goal.invariant-each
 invariant-each l =
-    (l.numbers.items ≡ map (first_number l.places l.values) (range_with_len 0 l.i))
-    × AreFirstInRange l.places l.values l.i
+    (l.numbers.items ≡ map (first_number l.places l.raw.values) (range_with_len 0 l.i))
+    × AreFirstInRange l.places l.raw.values l.i

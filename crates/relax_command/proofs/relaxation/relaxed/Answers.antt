@@ -6,12 +6,12 @@ use Rattle.relax_command.proofs.relaxation.relaxed.Goals as goal
 
 pub least_box-requires-clause-facts : goal.least_box-requires-clause-facts
 least_box-requires-clause-facts c =
-    ap (λ (s : StateValue). length s.facts) c.first.ensures ∙ facts_of_first c.args.task.raw c.args.task.places
+    ap (λ (s : StateValue). length s.facts) c.first.ensures.value ∙ facts_of_first c.args.task.raw c.args.task.places
 
 pub least_box-requires-clause-values : goal.least_box-requires-clause-values
 least_box-requires-clause-values c =
-    ap (λ (s : StateValue). length s.values) c.first.ensures ∙ values_of_first c.args.task.raw c.args.task.places
+    ap (λ (s : StateValue). length s.values) c.first.ensures.value ∙ values_of_first c.args.task.raw c.args.task.places
 
 pub returns-in-Ok-clause-relaxed : goal.returns-in-Ok-clause-relaxed
 returns-in-Ok-clause-relaxed c =
-    relaxed_box c.args.task c.in-Ok.part c.requires (rw c.first.ensures at c.in-Ok.ensures)
+    relaxed_box c.args.task c.in-Ok.part c.raw-raw.ensures.placed (rw c.first.ensures.value at c.in-Ok.ensures)

@@ -1,11 +1,10 @@
-use Rattle.std.proofs.Common.{true, take}
-use Rattle.std.specs.List.{list_all}
-use Rattle.ground_task.specs.Tasks.{TaskValue}
-use Rattle.box_model.specs.Boxes.{fact_in, may_be, IsBoxOf}
-use Rattle.relax_plain.specs.Widening.{IsLeastBox}
+use Rattle.std.proofs.Common.{◌≡◌, true, take}
+use Rattle.relax_plain.specs.Spread.{IsSpread}
+use Rattle.relax_plain.proofs.BoxLemmas.{may_be_all}
 use Rattle.relax_plain.proofs.widen.with_added.Given as goal
 
 abbrev pub invariant-each : goal.invariant-each
-invariant-each l =
-    (t : TaskValue) → IsBoxOf t l.fn.state_box →
-    IsLeastBox t (λ b. list_all (λ f. may_be (fact_in b f) true) (take l.fact-index l.adds)) l.fn.state_box (record { facts = l.facts.items; fluents = l.fluents })
+invariant-each l = record {
+  spread : IsSpread l.task l.fn.state_box l.fn.marks l.wider l.marks;
+  added : may_be_all (take l.fact-index l.action.adds) l.wider ≡ true;
+}

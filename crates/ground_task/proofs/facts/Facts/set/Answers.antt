@@ -11,10 +11,10 @@ pub invariant_of-self : goal.invariant_of-self
 invariant_of-self c =
     let f = c.self.inside in
     let words = set_words f.words.items f.count c.args.number _ c.args.self.now c.self.invariant c.self.view_is c.requires.known c.index_mut.ensures.value in
-    IsPacked-of _ f.count (set c.args.self.now c.args.number true) words (count_after f.words.items f.count c.args.number c.args.self.now c.self.view_is)
+    IsPacked-of _ f.count (set c.args.self.now c.args.number true) words (count_after f.words.items f.count c.args.number c.args.self.now true c.self.view_is)
 
 pub returns : goal.returns
 returns c =
     let f = c.self.inside in
     let words = set_words f.words.items f.count c.args.number _ c.args.self.now c.self.invariant c.self.view_is c.requires.known c.index_mut.ensures.value in
-    unpacked_of _ f.count (set c.args.self.now c.args.number true) words (count_after f.words.items f.count c.args.number c.args.self.now c.self.view_is)
+    unpacked_of _ f.count (set c.args.self.now c.args.number true) words (count_after f.words.items f.count c.args.number c.args.self.now true c.self.view_is)

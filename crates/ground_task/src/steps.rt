@@ -1,0 +1,184 @@
+//! The step of an action in a state, within the range.
+
+ghost use Rattle.std.specs.Prelude.{◌≡◌, ◌<◌, Some, IfOk, IsTrue, length, slice_get};
+ghost use Rattle.std.specs.List.{list_all};
+ghost use Rattle.ground_task.specs.declared.answers.Applied.TheVariants as step;
+ghost use Rattle.ground_task.specs.declared.raw.GCond.{out-GCond};
+ghost use Rattle.ground_task.specs.Inside.{guard_of, AreEffectsOf, IsDecidable};
+ghost use Rattle.ground_task.specs.Ranged.{are_effects_in_bounds, literal_layer, literals_true, ranged_action, ranged_step, top_conjuncts, without_state};
+ghost use Rattle.ground_task.specs.States.{StateValue};
+ghost use Rattle.ground_task.specs.Steps.{next_state};
+ghost use Rattle.ground_task.specs.Tasks.{IsStateOf};
+ghost use Rattle.ground_task.specs.Valid.{is_known_condition, IsValidAction};
+
+use crate::answers::{Advanced, Applied, Truth};
+use crate::changes::{add_facts, delete_facts, write_values};
+use crate::raw::{GCond, Ground};
+use crate::state::State;
+use crate::task::Task;
+use crate::truth::{has_truth, truth_of};
+use num_ends::NoMemory;
+use std::alloc::Global;
+use std::marker::Model;
+use std::slice;
+
+/// Room for a state, into which steps are written without memory being taken.
+#[derive(Debug, Drop)]
+pub struct StateBuffer {
+    state: State,
+}
+
+impl Model for StateBuffer {
+    ghost use Rattle.ground_task.specs.States.{StateValue};
+
+    ghost Value = { StateValue };
+
+    ghost view = { λ buffer. buffer.state };
+}
+
+impl StateBuffer {
+    /// Room for each state of a task.
+    pub fn new(alloc: Global, task: &Task) -> Result<StateBuffer, NoMemory>
+        ensures { IfOk result (IsStateOf task.now) }
+    {
+        Ok(StateBuffer {
+            state: task.first().copy(alloc)?,
+        })
+    }
+
+    /// The state that was written last.
+    pub fn state(&self) -> &State
+        ensures { result.now ≡ self.now }
+    {
+        &self.state
+    }
+}
+
+/// The members of an outermost conjunction, or the condition itself.
+fn conjuncts(cond: &GCond) -> &[GCond]
+    ensures { result.now ≡ top_conjuncts cond.now }
+{
+    match cond {
+        GCond::And(conds) => conds.as_slice(),
+        GCond::True | GCond::False | GCond::Fact(_, _) | GCond::Cmp(_, _, _) | GCond::Or(_) => {
+            slice::from_ref(cond)
+        }
+    }
+}
+
+/// Whether a condition, if it is a literal, is true.
+#[tactic(auto, using(crate::proofs::Evaluable::known_Fact))]
+fn is_true_literal(task: &Task, state: &State, cond: &GCond) -> bool
+    requires of_task { IsStateOf task.now state.now }
+    requires decidable { IsDecidable task.now cond.now }
+    ensures { result ≡ literal_layer state.now (out-GCond cond.now) }
+{
+    match cond {
+        GCond::Fact(fact, truth) => has_truth(state, *fact, *truth),
+        GCond::True | GCond::False | GCond::Cmp(_, _, _) | GCond::And(_) | GCond::Or(_) => true,
+    }
+}
+
+/// Whether each literal among the top conjuncts is true.
+#[tactic(auto, unfolding(crate::specs::Ranged::literals_true))]
+fn literals_true(task: &Task, state: &State, cond: &GCond) -> bool
+    requires of_task { IsStateOf task.now state.now }
+    requires decidable { IsDecidable task.now cond.now }
+    ensures { result ≡ literals_true state.now cond.now }
+{
+    'each: for conjunct in conjuncts(cond) {
+        if !is_true_literal(task, state, conjunct) {
+            return false;
+        }
+    }
+    true
+}
+
+/// Whether an action with this precondition gets as far as its effects.
+fn guard(task: &Task, state: &State, cond: &GCond) -> Advanced
+    requires of_task { IsStateOf task.now state.now }
+    requires decidable { IsDecidable task.now cond.now }
+    ensures { result ≡ guard_of task.now.places state.now cond.now }
+{
+    if !literals_true(task, state, cond) {
+        return Advanced::Blocked;
+    }
+    match truth_of(task, state, cond) {
+        Truth::Yes => Advanced::Next,
+        Truth::No => Advanced::Blocked,
+        Truth::Over => Advanced::Over,
+    }
+}
+
+/// Writes what an action makes of a state over a copy of it; false where a subvalue leaves the range.
+fn write_effects(task: &Task, state: &State, action: &Ground, next: &mut State) -> bool
+    requires of_task { IsStateOf task.now state.now }
+    requires valid { IsValidAction (length task.now.raw.facts) (length task.now.raw.fluents) action.now }
+    requires effects { AreEffectsOf task.now action.now.nums }
+    requires same { next.old ≡ state.now }
+    ensures fits { result ≡ are_effects_in_bounds task.now.places state.now action.now.nums }
+    ensures next { IsTrue result → next.new ≡ next_state task.now.places state.now action.now }
+    ensures of_task { IsStateOf task.now next.new }
+{
+    delete_facts(action.dels.as_slice(), next);
+    add_facts(action.adds.as_slice(), next);
+    write_values(task, state, action.nums.as_slice(), next)
+}
+
+impl Task {
+    #[tactic(auto, using(crate::proofs::StepAnswers::effects_of_action))]
+    fn action(&self, number: u32) -> &Ground
+        requires known { number < length self.now.raw.actions }
+        ensures value { slice_get self.now.raw.actions number ≡ Some result.now }
+        ensures valid { IsValidAction (length self.now.raw.facts) (length self.now.raw.fluents) result.now }
+        ensures effects { AreEffectsOf self.now result.now.nums }
+        ensures decidable { IsDecidable self.now result.now.pre }
+    {
+        &self.raw().actions.as_slice()[number as usize]
+    }
+
+    /// What an action does in a state: `Blocked` where a top conjunct that is a literal is false; else `Over` where a
+    /// subvalue of a comparison of the precondition leaves the range at its places, none of them skipped; else `Blocked`
+    /// where the precondition is false; else `Over` where a subvalue of an effect leaves the range; else the next state.
+    pub fn apply(&self, alloc: Global, state: &State, action: u32) -> Result<Applied, NoMemory>
+        requires of_task { IsStateOf self.now state.now }
+        requires known { action < length self.now.raw.actions }
+        ensures { IfOk result (λ a. a ≡ ranged_step self.now state.now action) }
+    {
+        let action = self.action(action);
+        match guard(self, state, &action.pre) {
+            Advanced::Next => {
+                let mut next = state.copy(alloc)?;
+                if write_effects(self, state, action, &mut next) {
+                    Ok(Applied::Next(next))
+                } else {
+                    Ok(Applied::Over)
+                }
+            }
+            Advanced::Blocked => Ok(Applied::Blocked),
+            Advanced::Over => Ok(Applied::Over),
+        }
+    }
+
+    /// The same with the next state written into a buffer, and no memory taken.
+    pub fn apply_into(&self, state: &State, action: u32, next: &mut StateBuffer) -> Advanced
+        requires of_task { IsStateOf self.now state.now }
+        requires known { action < length self.now.raw.actions }
+        requires room { IsStateOf self.now next.old }
+        ensures answer { result ≡ without_state (ranged_step self.now state.now action) }
+        ensures next { (s : StateValue) → ranged_step self.now state.now action ≡ step.Next s → next.new ≡ s }
+        ensures room { IsStateOf self.now next.new }
+    {
+        let action = self.action(action);
+        match guard(self, state, &action.pre) {
+            Advanced::Next => {}
+            Advanced::Blocked => return Advanced::Blocked,
+            Advanced::Over => return Advanced::Over,
+        }
+        next.state.copy_from(state);
+        if write_effects(self, state, action, &mut next.state) {
+            return Advanced::Next;
+        }
+        Advanced::Over
+    }
+}

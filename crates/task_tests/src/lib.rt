@@ -1,5 +1,0 @@
-//! Tests of ground tasks, boxes and the least closed box, by public calls alone.
-#![tactic(auto)]
-
-#[cfg(test)]
-mod relaxations;
