@@ -1,0 +1,9 @@
+pub mod RangeSteps
+pub mod Layers
+pub mod Ring
+pub mod FormValues
+pub mod Meets
+pub mod Closing
+pub mod Loops
+pub mod Sizes
+pub mod Fluents

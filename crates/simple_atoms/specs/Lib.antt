@@ -1,0 +1,4 @@
+pub mod Forms
+pub mod Ranged
+pub mod Repetitions
+pub mod Values

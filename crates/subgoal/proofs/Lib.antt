@@ -1,0 +1,10 @@
+pub mod Uniqueness
+pub mod LowerValues
+pub mod ReadFluents
+pub mod Seen
+pub mod Repeating
+pub mod Steps
+pub mod Lowering
+pub mod LeafLists
+pub mod Helpers
+pub mod Reading

@@ -1,0 +1,14 @@
+use Rattle.std.proofs.Common.{◌≡◌, ◌≤◌, drop, map, min}
+use Rattle.simple_atoms.specs.declared.linear.TheConstants.{FAR}
+use Rattle.subgoal.specs.Equations.{least_of}
+use Rattle.subgoal.specs.Leaves.{reached_at}
+use Rattle.subgoal.specs.Unmet.{help_of}
+use Rattle.subgoal.proofs.conditions.least_over.Given as goal
+
+abbrev pub invariant-each : goal.invariant-each
+invariant-each l =
+    record {
+      whole : min l.least (least_of (map (reached_at (help_of l.unmet) l.actions l.values) (drop l.helper-index l.helpers)))
+          ≡ least_of (map (reached_at (help_of l.unmet) l.actions l.values) l.helpers);
+      near : l.least ≤ FAR;
+    }

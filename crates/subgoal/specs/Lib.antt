@@ -1,0 +1,6 @@
+pub mod Equations
+pub mod Estimates
+pub mod Help
+pub mod Leaves
+pub mod Repeats
+pub mod Unmet
