@@ -1,0 +1,8 @@
+//! A box as a list of words of 64 bits, and back.
+#![tactic(auto)]
+
+mod laws;
+mod words;
+
+pub use laws::{ends_are_decimals, words_decode};
+pub use words::{decimal_of, may_of, word_at};

@@ -1,0 +1,28 @@
+-- What one turn of a loop over the words of a row reads.
+use Rattle.std.proofs.Common.{◌≡◌, ℕ, ◌+◌, Bool, false, List, [], ◌∷◌, ◌++◌, map, get_or, sym, ap, ◌∙◌, arith}
+use Rattle.std.proofs.lemmas.List.FromFn.{map-range_with_len_more}
+use Rattle.std.specs.List.{range_with_len}
+use Rattle.num_ends.specs.Decimal.{Decimal}
+use Rattle.num_ends.specs.Ends.{Interval, has}
+use Rattle.box_model.specs.Boxes.{may_be}
+use Rattle.box_model.specs.declared.state_box.May.{May}
+use Rattle.box_words.specs.Words.{fact_at, may_of, interval_at}
+use Rattle.word_rows.specs.declared.view.View.{View}
+use Rattle.word_rows.specs.Views.{words_known}
+
+pub read_fact : (v0 v : View) (row f w : ℕ) (m : May) → v ≡ v0 → w ≡ get_or (words_known v row) f 0 → m ≡ may_of w → m ≡ fact_at (words_known v0 row) f
+read_fact v0 v row f w m same word may = may ∙ ap may_of (word ∙ ap (λ (x : View). get_or (words_known x row) f 0) same)
+
+pub tested_fact : (v0 v : View) (row f w : ℕ) (m : May) (truth r : Bool) (facts : List Bool) → v ≡ v0 → w ≡ get_or (words_known v row) f 0 → m ≡ may_of w → truth ≡ get_or facts f false → r ≡ may_be m truth
+    → may_be (fact_at (words_known v0 row) f) (get_or facts f false) ≡ r
+tested_fact v0 v row f w m truth r facts same word may fact test = sym (test ∙ (λ i. may_be (read_fact v0 v row f w m same word may i) (fact i)))
+
+pub tested_value : (v0 v : View) (row facts x : ℕ) (value d : Decimal) (r : Bool) → v ≡ v0 → value ≡ d → r ≡ has (interval_at facts (words_known v row) x) value → has (interval_at facts (words_known v0 row) x) d ≡ r
+tested_value v0 v row facts x value d r same is test = sym (test ∙ (λ i. has (interval_at facts (words_known (same i) row) x) (is i)))
+
+pub read_interval : (v0 v : View) (row facts x : ℕ) (r : Interval) → v ≡ v0 → r ≡ interval_at facts (words_known v row) x → r ≡ interval_at facts (words_known v0 row) x
+read_interval v0 v row facts x r same read = read ∙ ap (λ (u : View). interval_at facts (words_known u row) x) same
+
+-- one more item of a list that a function fills
+pub filled : {A : Type 0} (f : ℕ → A) (items items' : List A) (n : ℕ) (a : A) → items ≡ map f (range_with_len 0 n) → a ≡ f n → items' ≡ items ++ a ∷ [] → items' ≡ map f (range_with_len 0 (n + 1))
+filled f items items' n a before is push = push ∙ ((λ i. before i ++ is i ∷ []) ∙ sym (map-range_with_len_more f 0 n n (omega arith)))

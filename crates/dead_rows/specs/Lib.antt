@@ -1,0 +1,6 @@
+pub mod Entries
+pub mod Shapes
+pub mod Seats
+pub mod Knowledge
+pub mod Looks
+pub mod Readings
