@@ -1,0 +1,10 @@
+pub mod Collected
+pub mod Resolved
+pub mod Fitted
+pub mod Dropped
+pub mod Parted
+pub mod Bounded
+pub mod Judged
+pub mod Extended
+pub mod Survived
+pub mod Known

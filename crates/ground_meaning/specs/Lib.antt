@@ -1,0 +1,9 @@
+pub mod Results
+pub mod Expressions
+pub mod Conditions
+pub mod Actions
+pub mod Outcomes
+pub mod Goals
+pub mod Tasks
+pub mod Refusals
+pub mod Worlds
