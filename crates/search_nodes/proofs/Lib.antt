@@ -1,0 +1,4 @@
+pub mod Frontiers
+pub mod Kept
+pub mod Growing
+pub mod Legal

@@ -1,0 +1,15 @@
+pub mod Places
+pub mod Holds
+pub mod Moves
+pub mod Finding
+pub mod Exhausted
+pub mod Marks
+pub mod Entering
+pub mod Whole
+pub mod Paths
+pub mod Bounds
+pub mod Stays
+pub mod Journals
+pub mod Theorem
+pub mod Stability
+pub mod Fronts

@@ -1,0 +1,9 @@
+pub mod Walks
+pub mod Spaces
+pub mod KeptBoxes
+pub mod Nodes
+pub mod Runs
+pub mod Answers
+pub mod Meanings
+pub mod Later
+pub mod PlainRuns
