@@ -1,0 +1,7 @@
+//! Tests of ground tasks, boxes and the least closed box, by public calls alone.
+#![tactic(auto)]
+
+#[cfg(test)]
+mod relaxations;
+#[cfg(test)]
+mod threads;
