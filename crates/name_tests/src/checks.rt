@@ -16,9 +16,6 @@ const TYPED: &str =
     "(define (domain d) (:types truck place - object van - truck) (:constants l0 - place) \
 (:predicates (at ?t ?l) (free ?t)) (:functions (load ?t) (total)) (:action go) (:action stay))";
 
-/// Lets a pair go.
-fn discard(_pair: Checked) {}
-
 /// Lets a domain go.
 fn discard_domain(_domain: Domain) {}
 
@@ -67,7 +64,7 @@ fn is_answer(
 ) -> bool {
     match found {
         Some(Ok(pair)) => {
-            discard(pair);
+            pair.discard();
             want.is_none()
         }
         Some(Err(fault)) => is_fault(fault, want),
@@ -242,7 +239,7 @@ fn reads_of_a_checked_pair(rt: HostRuntime) -> Result<(), Fail> {
     match pair_of(checked(rt.alloc(), TYPED, problem)) {
         Some(pair) => {
             let held = is_typed_well(&pair) && are_read(&pair, &rows);
-            discard(pair);
+            pair.discard();
             assert!(rt; held);
             Ok(())
         }

@@ -44,6 +44,12 @@ impl Checked {
         Checked { named }
     }
 
+    /// Lets a checked pair go, part by part.
+    pub fn discard(self) {
+        let Checked { named } = self;
+        named.discard();
+    }
+
     /// The domain. What was checked is well formed, and as texts spell it.
     pub fn domain(&self) -> &Domain
         ensures domain { result.now ≡ self.now.domain }

@@ -27,31 +27,31 @@ use num_ends::NoMemory;
 use pddl_terms::{Domain, Problem};
 use std::alloc::Global;
 
-// Notes the faults of what a domain declares but for its actions, and gives the names of the constants.
+// Notes the faults of what a domain declares but for its actions, and adds the names of the constants to those seen.
 #[tactic(auto, using(crate::proofs::Noted::noted_append), unfolding(crate::specs::DeclarationFaults::declaration_faults))]
 fn note_declarations<'a>(
     alloc: Global,
     named: &'a Named,
+    seen: &mut NameSet<'a>,
     notes: &mut Notes,
-) -> Result<NameSet<'a>, NoMemory>
+) -> Result<(), NoMemory>
+    requires { seen.old ≡ [] }
     ensures faults { OnOk result (Noted notes.old notes.new (declaration_faults named.now.domain)) }
-    ensures constants { IfOk result (λ seen. seen ≡ with_names [] (names_of named.now.domain.constants)) }
+    ensures constants { OnOk result (seen.new ≡ with_names [] (names_of named.now.domain.constants)) }
 {
     let domain = named.domain();
-    let mut seen = NameSet::new(alloc);
     note_types(alloc, named, notes)?;
     note_typed(
         alloc,
         named,
         Side::Domain,
         domain.constants.as_slice(),
-        &mut seen,
+        seen,
         notes,
     )?;
     note_heads(alloc, named, notes)?;
     note_signatures(alloc, named, domain.predicates.as_slice(), notes)?;
-    note_signatures(alloc, named, domain.functions.as_slice(), notes)?;
-    Ok(seen)
+    note_signatures(alloc, named, domain.functions.as_slice(), notes)
 }
 
 #[tactic(auto, using(crate::proofs::Noted::noted_append), unfolding(crate::specs::Checks::schemas_faults))]
@@ -113,7 +113,8 @@ fn note_problem<'a>(
 fn note_pair(alloc: Global, named: &Named, notes: &mut Notes) -> Result<(), NoMemory>
     ensures { OnOk result (Noted notes.old notes.new (faults_of named.now)) }
 {
-    let mut seen = note_declarations(alloc, named, notes)?;
+    let mut seen = NameSet::new(alloc);
+    note_declarations(alloc, named, &mut seen, notes)?;
     note_all_schemas(alloc, named, notes)?;
     note_problem(alloc, named, &mut seen, notes)
 }
@@ -125,9 +126,6 @@ fn first_of(alloc: Global, named: &Named) -> Result<Option<Fault>, NoMemory>
     note_pair(alloc, named, &mut notes)?;
     Ok(notes.first)
 }
-
-// Lets a pair with its tables go.
-fn discard(_named: Named) {}
 
 // The pair where it has no fault, and else its first.
 fn answer(named: Named, first: Option<Fault>) -> Result<Checked, CheckFault>
@@ -141,7 +139,7 @@ fn answer(named: Named, first: Option<Fault>) -> Result<Checked, CheckFault>
     match first {
         None => Ok(Checked::new(named)),
         Some(fault) => {
-            discard(named);
+            named.discard();
             Err(CheckFault::At(fault.side, fault.kind, fault.name))
         }
     }
@@ -161,7 +159,7 @@ pub fn check(alloc: Global, domain: Domain, problem: Problem) -> Result<Checked,
     match first_of(alloc, &named) {
         Ok(first) => answer(named, first),
         Err(_) => {
-            discard(named);
+            named.discard();
             Err(CheckFault::NoMemory)
         }
     }

@@ -1,7 +1,9 @@
 //! The faults of declarations: of types, constants and objects, predicates and functions, and actions.
 
-ghost use Rattle.std.specs.Prelude.{◌≡◌, OnOk, flat_map, map};
+ghost use Rattle.std.specs.Prelude.{◌≡◌, ◌∷◌, [], OnOk, flat_map, map};
 ghost use Rattle.name_table.specs.TypedLists.{names_of};
+ghost use Rattle.type_order.specs.Types.{top_type};
+ghost use Rattle.pddl_types.specs.declared.faults.Side.TheVariants as side_of;
 ghost use Rattle.pddl_types.specs.DeclarationFaults.{cyclic_types, parameter_faults, repeated, repeated_heads, repeated_in_both, signature_faults, typed_faults, types_faults, unknown_types, with_names};
 ghost use Rattle.pddl_types.specs.Checks.{schema_faults};
 ghost use Rattle.pddl_types.specs.internal.Notes.{Noted};
@@ -97,16 +99,23 @@ pub(crate) fn note_typed<'a>(
     note_repeated(alloc, side, names.as_slice(), seen, notes)
 }
 
+// Notes the types that are declared again; the name of the type of all objects is taken.
+fn note_repeated_types(alloc: Global, types: &[Typed], notes: &mut Notes) -> Result<(), NoMemory>
+    ensures { OnOk result (Noted notes.old notes.new (repeated side_of.Domain (top_type ∷ []) (names_of types.now))) }
+{
+    let names = names_of(alloc, types)?;
+    let mut seen = NameSet::new(alloc);
+    seen.add(b"object")?;
+    note_repeated(alloc, Side::Domain, names.as_slice(), &mut seen, notes)
+}
+
 /// Notes the faults of the types.
 #[tactic(auto, using(crate::proofs::Noted::noted_append))]
 pub(crate) fn note_types(alloc: Global, named: &Named, notes: &mut Notes) -> Result<(), NoMemory>
     ensures { OnOk result (Noted notes.old notes.new (types_faults named.now.domain.types)) }
 {
     let types = named.domain().types.as_slice();
-    let names = names_of(alloc, types)?;
-    let mut seen = NameSet::new(alloc);
-    seen.add(b"object")?;
-    note_repeated(alloc, Side::Domain, names.as_slice(), &mut seen, notes)?;
+    note_repeated_types(alloc, types, notes)?;
     note_unknown_types(alloc, named, Side::Domain, types, notes)?;
     note_cyclic(alloc, named, notes)
 }

@@ -2,12 +2,14 @@
 
 ghost use Rattle.std.specs.Prelude.{◌≡◌, ◌++◌, IfOk};
 ghost use Rattle.std.specs.Option.{option_copied};
-ghost use Rattle.name_table.specs.Tables.{is_text_among, place_in};
+ghost use Rattle.name_table.specs.Tables.{is_text_among, numbered, place_in};
 ghost use Rattle.name_table.specs.TypedLists.{first_typed, names_of};
 ghost use Rattle.pddl_types.specs.Pairs.{changed_functions, heads_of, objects_of, schema_names, visible};
 ghost use Rattle.pddl_types.specs.Meanings.{first_sig, functions_first, named_by, sig_of};
+ghost use Rattle.pddl_types.specs.internal.Tables.{AreTablesOf};
 
 use crate::faults::Side;
+use crate::letting_go::{discard_domain, discard_problem, discard_table};
 use crate::lists::{first_parameter, first_sig};
 use crate::pairs::{Pair, Sort};
 use crate::tables::DomainTables;
@@ -45,18 +47,53 @@ impl Model for Named {
     ghost invariant = { λ n. AreTablesOf n.pair.domain n.tables × (n.objects ≡ numbered (names_of n.pair.problem.objects)) };
 }
 
+// The table of the problem's objects, and the tables of the domain.
+fn pair_tables(
+    alloc: Global,
+    domain: &Domain,
+    problem: &Problem,
+) -> Result<(NameTable, DomainTables), NoMemory>
+    ensures objects { IfOk result (λ tables. tables.0 ≡ numbered (names_of problem.now.objects)) }
+    ensures domain { IfOk result (λ tables. AreTablesOf domain.now tables.1) }
+{
+    let objects = typed_table(alloc, problem.objects.as_slice())?;
+    let tables = DomainTables::new(alloc, domain)?;
+    Ok((objects, tables))
+}
+
 impl Named {
     pub(crate) fn new(alloc: Global, domain: Domain, problem: Problem) -> Result<Named, NoMemory>
         ensures { IfOk result (λ named. named ≡ record { domain = domain; problem = problem }) }
     {
-        let tables = DomainTables::new(alloc, &domain)?;
-        let objects = typed_table(alloc, problem.objects.as_slice())?;
-        let pair = Pair { domain, problem };
-        Ok(Named {
+        match pair_tables(alloc, &domain, &problem) {
+            Ok((objects, tables)) => {
+                let pair = Pair { domain, problem };
+                Ok(Named {
+                    pair,
+                    tables,
+                    objects,
+                })
+            }
+            Err(fault) => {
+                discard_domain(domain);
+                discard_problem(problem);
+                Err(fault)
+            }
+        }
+    }
+
+    /// Lets the pair and its tables go.
+    pub(crate) fn discard(self) {
+        let Named {
             pair,
             tables,
             objects,
-        })
+        } = self;
+        let Pair { domain, problem } = pair;
+        discard_domain(domain);
+        discard_problem(problem);
+        discard_table(objects);
+        tables.discard();
     }
 
     pub(crate) fn domain(&self) -> &Domain

@@ -11,7 +11,7 @@ pub struct Pair {
 
 /// What an atom's name stands for.
 #[derive(Clone, Copy, Debug, PartialEq, Eq)]
-pub(crate) enum Sort {
+pub enum Sort {
     Predicate,
     Function,
 }

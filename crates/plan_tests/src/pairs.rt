@@ -11,6 +11,3 @@ pub(crate) fn pair(alloc: Global, domain: &str, problem: &str) -> Option<Checked
     }
     read_pair(alloc, domain.as_bytes(), problem.as_bytes()).ok()
 }
-
-/// Lets a pair go.
-pub(crate) fn discard(_pair: Checked) {}

@@ -1,6 +1,6 @@
 //! Small plans, executed.
 
-use crate::pairs::{discard, pair};
+use crate::pairs::pair;
 use pddl_types::Checked;
 use plan_text::read_plan;
 use plan_validator::{Verdict, validate};
@@ -54,7 +54,7 @@ fn executed(alloc: Global, pair: &Checked, text: &str) -> Option<Verdict> {
 fn verdict_on(alloc: Global, domain: &str, problem: &str, plan: &str) -> Option<Verdict> {
     let pair = pair(alloc, domain, problem)?;
     let verdict = executed(alloc, &pair, plan);
-    discard(pair);
+    pair.discard();
     verdict
 }
 

@@ -1,6 +1,6 @@
 //! Steps and goals in worlds.
 
-use crate::pairs::{discard, pair};
+use crate::pairs::pair;
 use num_ends::{List, NoMemory, Text};
 use pddl_meaning::{Advanced, Holds, Stepped, World, goal, start, step};
 use pddl_types::Checked;
@@ -23,7 +23,7 @@ fn goal_in(alloc: Global, pair: &Checked) -> Option<Holds> {
 fn goal_of(alloc: Global, problem: &str) -> Option<Holds> {
     let pair = pair(alloc, "(define (domain d) (:functions (x) (y)))", problem)?;
     let answer = goal_in(alloc, &pair);
-    discard(pair);
+    pair.discard();
     answer
 }
 
@@ -91,7 +91,7 @@ fn advanced(alloc: Global, pair: &Checked, object: &str) -> Option<Advanced> {
 fn answer_to(alloc: Global, domain: &str, object: &str) -> Option<Advanced> {
     let pair = pair(alloc, domain, ONE)?;
     let answer = advanced(alloc, &pair, object);
-    discard(pair);
+    pair.discard();
     answer
 }
 
@@ -138,7 +138,7 @@ fn steps_to_a_copy(rt: HostRuntime) -> Result<(), Fail> {
     let alloc = rt.alloc();
     let pair = pair(alloc, TRANSFER, ONE).ok_or("a pair")?;
     let copied = copies(alloc, &pair);
-    discard(pair);
+    pair.discard();
     assert!(rt; copied == Some(true));
     Ok(())
 }

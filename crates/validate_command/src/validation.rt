@@ -33,9 +33,6 @@ fn judged(alloc: Global, checked: &Checked, steps: &[Step]) -> Result<Validation
     })
 }
 
-// Lets a checked pair go.
-fn discard(_checked: Checked) {}
-
 /// The verdict on the plan that a text reads as; a bad line is refused.
 #[tactic(auto, using(crate::proofs::FewSteps::few_steps))]
 fn validated(alloc: Global, checked: &Checked, plan: &[u8]) -> Result<Validation, PairFault>
@@ -66,7 +63,7 @@ pub(crate) fn validation_of(
     match read_pair(alloc, domain, problem) {
         Ok(checked) => {
             let found = validated(alloc, &checked, plan);
-            discard(checked);
+            checked.discard();
             found
         }
         Err(fault) => Err(fault),
