@@ -6,12 +6,16 @@ pub mod Evaluable
 pub mod FirstState
 pub mod Layers
 pub mod Numbers
+pub mod NumberOrder
+pub mod NumberWords
 pub mod PackedBits
 pub mod PackedOrder
 pub mod Places
 pub mod Ranges
+pub mod SameRows
 pub mod SameStates
 pub mod StateNumbers
+pub mod StateRows
 pub mod StepAnswers
 pub mod Trees
 pub mod Truths

@@ -5,7 +5,7 @@ use Rattle.std.specs.List.{list_all}
 use Rattle.std.proofs.Math.Seq.{take-suc}
 use Rattle.std.proofs.lemmas.Bool.{cases_Bool, cases_eq}
 use Rattle.std.proofs.lemmas.List.{get_or-set_same, get_or-set_other, get_or-take, get_or_read, length-take, drop_more}
-use Rattle.std.proofs.lemmas.List.Elements.{All-head, All-set, All-tail}
+use Rattle.std.proofs.lemmas.List.Elements.{All-head, All-tail}
 use Rattle.num_ends.specs.Decimal.{Decimal, InRange, aligned, number_at, sum_of}
 use Rattle.num_ends.specs.Range.{in_range, operands_fit, where_fits}
 use Rattle.num_ends.proofs.DecimalOrder.{no_place_more}
@@ -20,10 +20,6 @@ use Rattle.ground_task.specs.Steps.{change_of, changed_value}
 use Rattle.ground_task.specs.Tasks.{TaskValue}
 use Rattle.ground_task.proofs.Bounded.{bounded_places, value_bounded}
 use Rattle.ground_task.proofs.Ranges.{not_true, range_test, range_tested}
-
--- numbers in range stay so where one is put among them
-pub in_range_set : (values : List ℤ) (x : ℕ) (n : ℤ) → InRange n → All InRange values → All InRange (set values x n)
-in_range_set values x n fits all = All-set InRange values x n fits all
 
 fitted : (fits : Bool) (d x : Decimal) → Some d ≡ where_fits fits x → (fits ≡ true) × (d ≡ x)
 fitted true d x e = (refl, cc)

@@ -235,15 +235,6 @@ cleared_words =
     changed_words false clear_bit clear_bit-lt (λ word n. bit_at_clear_same w64 word (63 - n % 64) (place-lt n))
     (λ word n i fits other. bit_at_clear_other w64 word (63 - n % 64) (place-lt n) i fits other)
 
-pub count_after : (words : List ℕ) (count n : ℕ) (bits : List Bool) (truth : Bool) → unpacked words count ≡ bits → count ≡ length (set bits n truth)
-count_after words count n bits truth view = count_of words count bits view ∙ sym (length-set bits n truth)
-
--- as many bits are packed into as many words
-pub as_many_words : (ws vs : List ℕ) (m n : ℕ) (xs ys : List Bool) → IsPacked ws m → unpacked ws m ≡ xs → IsPacked vs n → unpacked vs n ≡ ys → length xs ≡ length ys → length ws ≡ length vs
-as_many_words ws vs m n xs ys a a_view b b_view same =
-    ap length (is_packed_of ws m xs a a_view) ∙ length-packed xs ∙ ap (λ (k : ℕ). div_ceil k 64) same
-    ∙ sym (ap length (is_packed_of vs n ys b b_view) ∙ length-packed ys)
-
 -- words written over as many words are what is there afterwards
 pub written_whole : (ns items : List ℕ) (n : ℕ) → length ns ≡ length items → n ≡ length items → take n (ns ++ drop (length ns) items) ≡ ns
 written_whole ns items n same count =

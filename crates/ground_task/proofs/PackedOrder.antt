@@ -1,30 +1,27 @@
 -- Packed bits are ordered as the bits are: by their words, and then by how many they are.
-use Rattle.std.proofs.Common.{◌≡◌, ℕ, ◌+◌, ◌-◌, ◌*◌, ◌^◌, ◌<◌, ◌&&◌, zero, suc, Bool, true, false, List, [], ◌∷◌, length, drop, inl, inr, refl, sym, ap, ◌∙◌, arith}
-use Rattle.std.specs.Prelude.{nat_eq}
+use Rattle.std.proofs.Common.{◌≡◌, ℕ, ◌+◌, ◌-◌, ◌*◌, ◌^◌, ◌<◌, zero, suc, Bool, true, false, List, [], ◌∷◌, length, drop, inl, inr, refl, sym, ap, ◌∙◌, arith}
 use Rattle.std.specs.declared.cmp.Ordering.{Ordering}
 use Rattle.std.specs.declared.cmp.Ordering.TheVariants.{Less, Equal, Greater}
-use Rattle.std.specs.Bool.{beq}
-use Rattle.std.specs.Cmp.{nat_cmp_is, both_tied, unsigned_ties}
-use Rattle.std.specs.Cmp.Lexicographic.{slice_cmp, pointwise, lists_ties, texts_ties}
+use Rattle.std.specs.Cmp.{nat_cmp_is}
+use Rattle.std.specs.Cmp.Lexicographic.{slice_cmp}
 use Rattle.std.specs.Int.{div_ceil}
-use Rattle.std.specs.Ordering.{nat_cmp, bool_cmp, ordering_then, is_eq}
+use Rattle.std.specs.Ordering.{nat_cmp, bool_cmp, ordering_then}
 use Rattle.std.proofs.lemmas.Bool.{cases_order}
 use Rattle.std.proofs.lemmas.List.{length-drop}
-use Rattle.ground_task.specs.Bits.{bits_tied}
-use Rattle.ground_task.specs.Packed.{bit_number, leading_number, packed, unpacked, words_of, IsPacked}
-use Rattle.ground_task.proofs.PackedBits.{leading_number-lt, is_packed_of, count_of}
+use Rattle.ground_task.specs.Packed.{bit_number, leading_number, packed, words_of}
+use Rattle.ground_task.proofs.PackedBits.{leading_number-lt}
 
-cmp_less : (a b : ℕ) → a < b → nat_cmp a b ≡ Less
+pub cmp_less : (a b : ℕ) → a < b → nat_cmp a b ≡ Less
 cmp_less a b below = sym (nat_cmp_is a b Less below)
 
-cmp_greater : (a b : ℕ) → b < a → nat_cmp a b ≡ Greater
+pub cmp_greater : (a b : ℕ) → b < a → nat_cmp a b ≡ Greater
 cmp_greater a b above = sym (nat_cmp_is a b Greater above)
 
-cmp_equal : (a b : ℕ) → a ≡ b → nat_cmp a b ≡ Equal
+pub cmp_equal : (a b : ℕ) → a ≡ b → nat_cmp a b ≡ Equal
 cmp_equal a b same = sym (nat_cmp_is a b Equal same)
 
 -- numbers that stand as two others do are ordered alike
-cmp_alike : (a b c d : ℕ) → (a < b → c < d) → (a ≡ b → c ≡ d) → (b < a → d < c) → nat_cmp a b ≡ nat_cmp c d
+pub cmp_alike : (a b c d : ℕ) → (a < b → c < d) → (a ≡ b → c ≡ d) → (b < a → d < c) → nat_cmp a b ≡ nat_cmp c d
 cmp_alike a b c d less same more =
     elim (cases_order a b) [
       | inl e ↦ cmp_equal a b e ∙ sym (cmp_equal c d (same e))
@@ -136,27 +133,3 @@ by_words (suc m) (suc n) xs ys a b =
 pub cmp-packed : (xs ys : List Bool) → slice_cmp bool_cmp xs ys ≡ ordering_then (slice_cmp nat_cmp (packed xs) (packed ys)) (nat_cmp (length xs) (length ys))
 unfolding packed
 cmp-packed xs ys = by_words (div_ceil (length xs) 64) (div_ceil (length ys) 64) xs ys refl refl
-
-pub eq-packed : (xs ys : List Bool) → pointwise beq xs ys ≡ (pointwise nat_eq (packed xs) (packed ys) && nat_eq (length xs) (length ys))
-eq-packed xs ys =
-    lists_ties bool_cmp bits_tied xs ys
-    ∙ ap is_eq (cmp-packed xs ys)
-    ∙ sym (both_tied _ _ (slice_cmp nat_cmp (packed xs) (packed ys)) (nat_cmp (length xs) (length ys)) (texts_ties (packed xs) (packed ys)) (unsigned_ties (length xs) (length ys)))
-
--- words and counts are equal where the bits are
-pub same_words : (ws vs : List ℕ) (m n : ℕ) (xs ys : List Bool) → IsPacked ws m → unpacked ws m ≡ xs → IsPacked vs n → unpacked vs n ≡ ys → (pointwise nat_eq ws vs && nat_eq m n) ≡ pointwise beq xs ys
-same_words ws vs m n xs ys a a_view b b_view =
-    ap (λ (us : List ℕ). pointwise nat_eq us vs && nat_eq m n) (is_packed_of ws m xs a a_view)
-    ∙ ap (λ (us : List ℕ). pointwise nat_eq (packed xs) us && nat_eq m n) (is_packed_of vs n ys b b_view)
-    ∙ ap (λ (k : ℕ). pointwise nat_eq (packed xs) (packed ys) && nat_eq k n) (count_of ws m xs a_view)
-    ∙ ap (λ (k : ℕ). pointwise nat_eq (packed xs) (packed ys) && nat_eq (length xs) k) (count_of vs n ys b_view)
-    ∙ sym (eq-packed xs ys)
-
--- words and then counts are ordered as the bits are
-pub order_of_words : (ws vs : List ℕ) (m n : ℕ) (xs ys : List Bool) → IsPacked ws m → unpacked ws m ≡ xs → IsPacked vs n → unpacked vs n ≡ ys → ordering_then (slice_cmp nat_cmp ws vs) (nat_cmp m n) ≡ slice_cmp bool_cmp xs ys
-order_of_words ws vs m n xs ys a a_view b b_view =
-    ap (λ (us : List ℕ). ordering_then (slice_cmp nat_cmp us vs) (nat_cmp m n)) (is_packed_of ws m xs a a_view)
-    ∙ ap (λ (us : List ℕ). ordering_then (slice_cmp nat_cmp (packed xs) us) (nat_cmp m n)) (is_packed_of vs n ys b b_view)
-    ∙ ap (λ (k : ℕ). ordering_then (slice_cmp nat_cmp (packed xs) (packed ys)) (nat_cmp k n)) (count_of ws m xs a_view)
-    ∙ ap (λ (k : ℕ). ordering_then (slice_cmp nat_cmp (packed xs) (packed ys)) (nat_cmp (length xs) k)) (count_of vs n ys b_view)
-    ∙ sym (cmp-packed xs ys)

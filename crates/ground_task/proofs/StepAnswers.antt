@@ -1,6 +1,7 @@
 -- What an action's guard and effects give of its step, and what a step that isn't over gives of the step without bounds.
-use Rattle.std.proofs.Common.{◌≡◌, ◌&&◌, ◌||◌, ◌<◌, ◌≤◌, ℕ, ℤ, pos, if◌then◌else◌, Bool, true, false, not, List, Some, All, length, slice_get, slice_index_or, refl, sym, ap, ap₂, ◌∙◌, arith}
-use Rattle.std.proofs.lemmas.List.FromFn.{fill_by_all}
+use Rattle.std.proofs.Common.{◌≡◌, ◌&&◌, ◌||◌, ◌<◌, ◌≤◌, ℕ, ℤ, pos, if◌then◌else◌, Bool, true, false, not, List, Some, All, length, slice_get, slice_index_or, refl, sym, ap, ap₂, ◌∙◌, subst, arith}
+use Rattle.std.specs.Prelude.{IfOk, Result, Ok, Err}
+use Rattle.std.proofs.lemmas.List.FromFn.{fill_by_all, length-map-range_with_len}
 use Rattle.num_ends.specs.Decimal.{number_at}
 use Rattle.ground_task.specs.declared.answers.Advanced.{Advanced}
 use Rattle.ground_task.specs.declared.answers.Advanced.TheVariants as advance
@@ -8,13 +9,13 @@ use Rattle.ground_task.specs.declared.answers.Applied.{Applied}
 use Rattle.ground_task.specs.declared.answers.Applied.TheVariants as step
 use Rattle.ground_task.specs.declared.raw.Change.{Change}
 use Rattle.ground_task.specs.declared.raw.Ground.{Ground}
-use Rattle.ground_task.specs.Inside.{guard_of, AreEffectsOf}
+use Rattle.ground_task.specs.Inside.{effects_step, guard_of, AreEffectsOf}
 use Rattle.ground_task.specs.Meaning.{fact_value, holds}
 use Rattle.ground_task.specs.Placed.{IsPlacedAction}
 use Rattle.ground_task.specs.Ranged.{are_effects_in_bounds, is_in_bounds, literals_true, ranged_action, ranged_step}
 use Rattle.ground_task.specs.States.{StateValue}
 use Rattle.ground_task.specs.Steps.{change_of, changed_fact, changed_value, next_number, next_state}
-use Rattle.ground_task.specs.Tasks.{is_listed, TaskValue}
+use Rattle.ground_task.specs.Tasks.{is_listed, IsStateOf, TaskValue}
 use Rattle.ground_task.specs.Valid.{IsValidAction}
 
 -- ---- the answers of an action
@@ -61,7 +62,7 @@ module _ (places : List ℕ) (s : StateValue) (a : Ground) where
   unfolding ranged_action
   action_over h = over_by (literals_true s a.pre) (is_in_bounds places s a.pre) (holds places s a.pre) (are_effects_in_bounds places s a.nums) (step.Next (next_state places s a)) h
 
-  action_goes_on : advance.Next ≡ guard_of places s a.pre → ranged_action places s a ≡ (if not (are_effects_in_bounds places s a.nums) then step.Over else step.Next (next_state places s a))
+  pub action_goes_on : advance.Next ≡ guard_of places s a.pre → ranged_action places s a ≡ (if not (are_effects_in_bounds places s a.nums) then step.Over else step.Next (next_state places s a))
   unfolding ranged_action
   action_goes_on h = next_by (literals_true s a.pre) (is_in_bounds places s a.pre) (holds places s a.pre) (are_effects_in_bounds places s a.nums) (step.Next (next_state places s a)) h
 
@@ -132,3 +133,22 @@ effects_of_action t a valid placed few count =
           };
       one_each = valid.one_change_each;
     }
+
+-- ---- the next state is one of the task
+
+-- what holds of a result holds of it in other words
+pub mapped_ok : {A E : Type 0} {P Q : A → Type 0} → (r : Result A E) → ((a : A) → P a → Q a) → IfOk r P → IfOk r Q
+mapped_ok (Ok a) f p = f a p
+mapped_ok (Err e) f p = tt
+
+next_in : (b : Bool) (made u : StateValue) → (if not b then step.Over else step.Next made) ≡ step.Next u → made ≡ u
+next_in true made u e = same_next made u e
+next_in false made u e = cc
+
+pub next_of_task : (t : TaskValue) (s : StateValue) (a : Ground) → IsStateOf t s → (x : Applied) → x ≡ effects_step t.places s a → (u : StateValue) → x ≡ step.Next u → IsStateOf t u
+next_of_task t s a of_task x is u next =
+    subst (IsStateOf t) (next_in (are_effects_in_bounds t.places s a.nums) (next_state t.places s a) u (sym is ∙ next))
+    (record {
+      a_truth_each = length-map-range_with_len (changed_fact s a) 0 (length s.facts) ∙ of_task.a_truth_each;
+      a_number_each = length-map-range_with_len (next_number t.places s a) 0 (length s.values) ∙ of_task.a_number_each;
+    })

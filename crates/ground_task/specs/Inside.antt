@@ -12,9 +12,12 @@ use Rattle.ground_task.specs.declared.raw.GExpr.{GExpr}
 use Rattle.ground_task.specs.declared.raw.Rel.{Rel}
 use Rattle.ground_task.specs.Meaning.{holds, stands}
 use Rattle.ground_task.specs.Placed.{has_few_places, places_of}
-use Rattle.ground_task.specs.Ranged.{both, is_change_in_bounds, is_in_bounds, literals_true, ranged_value}
+use Rattle.ground_task.specs.Ranged.{are_effects_in_bounds, both, is_change_in_bounds, is_in_bounds, literals_true, ranged_value}
 use Rattle.ground_task.specs.States.{StateValue}
-use Rattle.ground_task.specs.Steps.{changed_value}
+use Rattle.ground_task.specs.declared.answers.Applied.{Applied}
+use Rattle.ground_task.specs.declared.answers.Applied.TheVariants as step
+use Rattle.ground_task.specs.declared.raw.Ground.{Ground}
+use Rattle.ground_task.specs.Steps.{changed_value, next_state}
 use Rattle.ground_task.specs.Tasks.{TaskValue}
 use Rattle.ground_task.specs.Valid.{is_known_condition, is_known_expression, right_side}
 
@@ -86,3 +89,9 @@ guard_of places s c =
     else (if not (is_in_bounds places s c) then advance.Over
     else (if not (holds places s c) then advance.Blocked
     else advance.Next))
+
+-- what the effects of an action make of a state
+abbrev pub effects_step : List ℕ → StateValue → Ground → Applied
+effects_step places s a =
+    if not (are_effects_in_bounds places s a.nums) then step.Over
+    else step.Next (next_state places s a)

@@ -6,6 +6,7 @@ pub mod Packed
 pub mod Placed
 pub mod Plain
 pub mod Ranged
+pub mod Rows
 pub mod States
 pub mod Steps
 pub mod Tasks

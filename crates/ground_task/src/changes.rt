@@ -1,15 +1,18 @@
 //! The changes that an action makes of facts and fluents, within the range.
 
-ghost use Rattle.std.specs.Prelude.{◌≡◌, ◌<◌, ◌||◌, ◌&&◌, ℕ, All, IfSome, IfNone, IsTrue, Some, false, pos, length, not, slice_index_or};
+ghost use Rattle.std.specs.Prelude.{◌≡◌, ◌<◌, ◌||◌, ◌&&◌, ℕ, All, IfSome, IfNone, IsTrue, Some, false, true, pos, length, not, slice_index_or};
 ghost use Rattle.num_ends.specs.Decimal.{number_at};
 ghost use Rattle.ground_task.specs.declared.raw.Change.TheVariants as change;
 ghost use Rattle.ground_task.specs.Inside.{AreEffectsOf, IsEffectOf, IsNewValue};
 ghost use Rattle.ground_task.specs.Meaning.{fact_value};
 ghost use Rattle.ground_task.specs.Ranged.{are_effects_in_bounds, is_change_in_bounds};
+ghost use Rattle.ground_task.specs.Rows.{state_of_row};
+ghost use Rattle.ground_task.specs.declared.changes.Written.TheVariants as written;
 ghost use Rattle.ground_task.specs.Steps.{change_of, changed_value};
 ghost use Rattle.ground_task.specs.Tasks.{is_listed, IsStateOf};
 
 use crate::raw::{Change, GExpr};
+use crate::row::Row;
 use crate::state::State;
 use crate::task::Task;
 use crate::values::{fluent_value, sum, value_of};
@@ -59,37 +62,55 @@ fn new_value(task: &Task, state: &State, fluent: u32, change: &Change) -> Option
     }
 }
 
-/// Writes the new value of each changed fluent, with the right-hand sides taken in the old state; false where a subvalue
-/// leaves the range.
+/// What came of values that were to be written into a row.
+#[derive(Clone, Copy, Debug)]
+pub(crate) enum Written {
+    /// They are there.
+    Whole,
+    /// A subvalue leaves the range.
+    Over,
+    /// One of them needs two words, and the row has one a number.
+    Outgrown,
+}
+
+/// Writes the new value of each changed fluent, with the right-hand sides taken in the old state.
 pub(crate) fn write_values(
     task: &Task,
     state: &State,
     effects: &[(u32, Change)],
-    next: &mut State,
-) -> bool
+    next: &mut Row,
+) -> Written
     requires of_task { IsStateOf task.now state.now }
     requires effects { AreEffectsOf task.now effects.now }
     requires same { next.old.values ≡ state.now.values }
-    ensures fits { result ≡ are_effects_in_bounds task.now.places state.now effects.now }
+    ensures over { result ≡ written.Over → false ≡ are_effects_in_bounds task.now.places state.now effects.now }
+    ensures whole { result ≡ written.Whole → true ≡ are_effects_in_bounds task.now.places state.now effects.now }
+    ensures outgrown { result ≡ written.Outgrown → next.old.is_wide ≡ false }
+    ensures width { next.new.is_wide ≡ next.old.is_wide }
     ensures facts { next.new.facts ≡ next.old.facts }
     ensures as_many { length next.new.values ≡ length state.now.values }
-    ensures values { IsTrue result → (x : ℕ) → x < length state.now.values → slice_index_or next.new.values x (pos 0) ≡ number_at (slice_index_or task.now.places x 0) (changed_value task.now.places state.now x (change_of x effects.now)) }
+    ensures values { result ≡ written.Whole → (x : ℕ) → x < length state.now.values → slice_index_or next.new.values x (pos 0) ≡ number_at (slice_index_or task.now.places x 0) (changed_value task.now.places state.now x (change_of x effects.now)) }
 {
     'each: for effect in effects {
         match new_value(task, state, effect.0, &effect.1) {
-            Some(value) => next.set_value(effect.0, value),
-            None => return false,
+            Some(value) => {
+                if !next.try_value(effect.0, value) {
+                    return Written::Outgrown;
+                }
+            }
+            None => return Written::Over,
         }
     }
-    true
+    Written::Whole
 }
 
 /// Makes facts false.
-pub(crate) fn delete_facts(facts: &[u32], next: &mut State)
+pub(crate) fn delete_facts(facts: &[u32], next: &mut Row)
     requires known { All (λ f. f < length next.old.facts) facts.now }
     ensures as_many { length next.new.facts ≡ length next.old.facts }
-    ensures facts { (f : ℕ) → f < length next.old.facts → fact_value next.new f ≡ (fact_value next.old f && not (is_listed facts.now f)) }
+    ensures facts { (f : ℕ) → f < length next.old.facts → fact_value (state_of_row next.new) f ≡ (fact_value (state_of_row next.old) f && not (is_listed facts.now f)) }
     ensures values { next.new.values ≡ next.old.values }
+    ensures width { next.new.is_wide ≡ next.old.is_wide }
 {
     'each: for fact in facts {
         next.delete_fact(*fact);
@@ -97,11 +118,12 @@ pub(crate) fn delete_facts(facts: &[u32], next: &mut State)
 }
 
 /// Makes facts true.
-pub(crate) fn add_facts(facts: &[u32], next: &mut State)
+pub(crate) fn add_facts(facts: &[u32], next: &mut Row)
     requires known { All (λ f. f < length next.old.facts) facts.now }
     ensures as_many { length next.new.facts ≡ length next.old.facts }
-    ensures facts { (f : ℕ) → f < length next.old.facts → fact_value next.new f ≡ (is_listed facts.now f || fact_value next.old f) }
+    ensures facts { (f : ℕ) → f < length next.old.facts → fact_value (state_of_row next.new) f ≡ (is_listed facts.now f || fact_value (state_of_row next.old) f) }
     ensures values { next.new.values ≡ next.old.values }
+    ensures width { next.new.is_wide ≡ next.old.is_wide }
 {
     'each: for fact in facts {
         next.add_fact(*fact);

@@ -7,7 +7,6 @@ ghost use Rattle.ground_task.specs.Placed.{IsPlaced};
 ghost use Rattle.ground_task.specs.Tasks.{first_number, first_state, is_listed, AreFirstInRange, IsCause};
 ghost use Rattle.ground_task.specs.Valid.{IsValid};
 
-use crate::facts::Facts;
 use crate::faults::TaskFault;
 use crate::raw::RawTask;
 use crate::state::State;
@@ -15,13 +14,13 @@ use num_ends::{Dec, List, NoMemory, Range};
 use std::alloc::Global;
 
 /// Of so many facts, which ones are listed.
-fn first_facts(alloc: Global, count: usize, listed: &[u32]) -> Result<Facts, NoMemory>
+fn first_facts(alloc: Global, count: usize, listed: &[u32]) -> Result<Vec<bool>, NoMemory>
     requires known { All (λ f. f < count) listed.now }
-    ensures { IfOk result (λ f. f ≡ map (is_listed listed.now) (range_with_len 0 count)) }
+    ensures { IfOk result (λ v. v.items ≡ map (is_listed listed.now) (range_with_len 0 count)) }
 {
-    let mut facts = Facts::cleared(alloc, count)?;
+    let mut facts = vec![in alloc; false; count]?;
     'each: for fact in listed {
-        facts.set(*fact as usize);
+        facts[*fact as usize] = true;
     }
     Ok(facts)
 }
@@ -76,5 +75,5 @@ pub(crate) fn first_of(alloc: Global, raw: &RawTask, places: &List<u8>) -> Resul
 {
     let facts = first_facts(alloc, raw.facts.len(), raw.true_facts.as_slice())?;
     let numbers = first_numbers(alloc, raw, places)?;
-    Ok(State::from_parts(facts, numbers))
+    Ok(State::from_parts(alloc, facts.as_slice(), numbers.as_slice())?)
 }

@@ -2,14 +2,13 @@
 #![tactic(auto)]
 
 mod answers;
-mod cells;
 mod changes;
 mod copies;
-mod facts;
 mod faults;
 mod first;
 pub mod laws;
 mod raw;
+mod row;
 mod state;
 mod steps;
 mod task;

@@ -1,8 +1,8 @@
 //! A ground task with the least places of its fluents.
 
-ghost use Rattle.std.specs.Prelude.{◌≡◌, MatchResult, Err};
+ghost use Rattle.std.specs.Prelude.{◌≡◌, length, IfOk, MatchResult, Err};
 ghost use Rattle.ground_task.specs.Placed.{IsPlaced};
-ghost use Rattle.ground_task.specs.Tasks.{TaskValue};
+ghost use Rattle.ground_task.specs.Tasks.{AreFirstInRange, TaskValue};
 ghost use Rattle.ground_task.specs.Valid.{IsValid};
 ghost use Rattle.places.specs.Least.{IsLeastPlaces, IsPlacesFault};
 
@@ -42,7 +42,8 @@ fn at_places(alloc: Global, raw: RawTask, counts: List<u8>) -> Result<Task, Plac
     requires valid { IsValid raw }
     requires least { IsLeastPlaces raw counts }
     requires placed { IsPlaced raw counts }
-    ensures { MatchResult result (λ t. (t.raw ≡ raw) × IsLeastPlaces raw t.places) (IsPlacesFault raw) }
+    ensures found { MatchResult result (λ t. (t.raw ≡ raw) × IsLeastPlaces raw t.places) (IsPlacesFault raw) }
+    ensures suffices { IfOk result (λ t. IsPlaced raw t.places × AreFirstInRange t.places raw.values (length raw.fluents)) }
 {
     match Task::with_places(alloc, raw, counts) {
         Ok(task) => Ok(task),
@@ -65,7 +66,8 @@ fn refused(raw: RawTask, fault: PlacesFault) -> Result<Task, PlacesFault>
 /// names the first fluent whose first value leaves the range at its places.
 pub fn infer(alloc: Global, raw: RawTask) -> Result<Task, PlacesFault>
     requires valid { IsValid raw }
-    ensures { MatchResult result (λ t. (t.raw ≡ raw) × IsLeastPlaces raw t.places) (IsPlacesFault raw) }
+    ensures found { MatchResult result (λ t. (t.raw ≡ raw) × IsLeastPlaces raw t.places) (IsPlacesFault raw) }
+    ensures suffices { IfOk result (λ t. IsPlaced raw t.places × AreFirstInRange t.places raw.values (length raw.fluents)) }
 {
     match suited_counts(alloc, &raw) {
         Ok(counts) => at_places(alloc, raw, counts),

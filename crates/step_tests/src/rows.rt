@@ -114,8 +114,6 @@ fn applied(alloc: Global, task: &Task) -> Result<Step, NoMemory>
     requires fluents { length task.now.raw.fluents ≡ 2 }
     requires actions { length task.now.raw.actions ≡ 1 }
 {
-    // Its places suffice, so the next state is one of the task.
-    let _raw = task.raw();
     match task.apply(alloc, task.first(), 0)? {
         Applied::Blocked => Ok(Step::Blocked),
         Applied::Over => Ok(Step::Over),
@@ -453,5 +451,55 @@ fn nineteen_places_of_the_goal(rt: HostRuntime) -> Result<(), Fail> {
     let changes = (added(whole(1)), added(whole(0)));
     let seen = row(alloc, (smallest(), smallest()), GCond::True, changes, goal)?;
     assert_eq!(rt; seen, Seen::Unplaced(PlacesFault::Goal));
+    Ok(())
+}
+
+// ---- numbers of more than 64 bits
+
+#[test]
+fn number_outgrows_a_word(rt: HostRuntime) -> Result<(), Fail> {
+    let alloc = rt.alloc();
+    let changes = (assigned(constant(large())), added(whole(1)));
+    let seen = row(
+        alloc,
+        (whole(5), whole(-3)),
+        GCond::True,
+        changes,
+        GCond::True,
+    )?;
+    let next = Step::Next(true, false, 100_000_000_000_000_000_000, -2);
+    assert_eq!(rt; seen, Seen::Placed(0, 0, next, Truth::Yes));
+    Ok(())
+}
+
+#[test]
+fn number_fits_a_word_again(rt: HostRuntime) -> Result<(), Fail> {
+    let alloc = rt.alloc();
+    let changes = (assigned(constant(whole(5))), added(whole(1)));
+    let seen = row(
+        alloc,
+        (large(), whole(-3)),
+        GCond::True,
+        changes,
+        GCond::True,
+    )?;
+    let next = Step::Next(true, false, 5, -2);
+    assert_eq!(rt; seen, Seen::Placed(0, 0, next, Truth::Yes));
+    Ok(())
+}
+
+#[test]
+fn number_stays_above_a_word(rt: HostRuntime) -> Result<(), Fail> {
+    let alloc = rt.alloc();
+    let changes = (added(whole(-1)), added(whole(1)));
+    let seen = row(
+        alloc,
+        (large(), whole(-3)),
+        GCond::True,
+        changes,
+        GCond::True,
+    )?;
+    let next = Step::Next(true, false, 99_999_999_999_999_999_999, -2);
+    assert_eq!(rt; seen, Seen::Placed(0, 0, next, Truth::Yes));
     Ok(())
 }

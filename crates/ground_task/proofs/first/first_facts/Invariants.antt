@@ -4,5 +4,5 @@ use Rattle.ground_task.proofs.first.first_facts.Given as goal
 
 abbrev pub invariant-each : goal.invariant-each
 invariant-each l =
-    (length l.facts ≡ l.count)
-    × ((f : ℕ) → f < l.count → get_or l.facts f false ≡ is_listed (take l.fact-index l.listed) f)
+    (length l.facts.items ≡ l.count)
+    × ((f : ℕ) → f < l.count → get_or l.facts.items f false ≡ is_listed (take l.fact-index l.listed) f)

@@ -23,23 +23,23 @@ returns-in-Over-clause-next c =
     let a = c.action-action.result.now in
     no_next_over c.args.self.now c.args.state.now c.args.action c.args.next.now (step_of_action c.args.self.now c.args.state.now c.args.action a _ c.action-action.ensures.value (action_over c.args.self.now.places c.args.state.now a c.in-Over.ensures))
 
-pub returns-then-write_effects-clause-answer : goal.returns-then-write_effects-clause-answer
-returns-then-write_effects-clause-answer c =
+pub returns-then-write_next-clause-answer : goal.returns-then-write_next-clause-answer
+returns-then-write_next-clause-answer c =
     let a = c.action-action.result.now in
-    ap without_state (sym (step_of_action c.args.self.now c.args.state.now c.args.action a _ c.action-action.ensures.value (action_next c.args.self.now.places c.args.state.now a c.in-Next.ensures c.if-write_effects.ensures.fits)))
+    ap without_state (sym (step_of_action c.args.self.now c.args.state.now c.args.action a _ c.action-action.ensures.value (action_next c.args.self.now.places c.args.state.now a c.in-Next.ensures c.if-write_next.ensures.fits)))
 
-pub returns-then-write_effects-clause-next : goal.returns-then-write_effects-clause-next
-returns-then-write_effects-clause-next c =
+pub returns-then-write_next-clause-next : goal.returns-then-write_next-clause-next
+returns-then-write_next-clause-next c =
     let a = c.action-action.result.now in
-    next_is c.args.self.now c.args.state.now c.args.action c.write_effects.new.next _ (step_of_action c.args.self.now c.args.state.now c.args.action a _ c.action-action.ensures.value (action_next c.args.self.now.places c.args.state.now a c.in-Next.ensures c.if-write_effects.ensures.fits))
-    (c.if-write_effects.ensures.next refl)
+    next_is c.args.self.now c.args.state.now c.args.action c.write_next.new.self _ (step_of_action c.args.self.now c.args.state.now c.args.action a _ c.action-action.ensures.value (action_next c.args.self.now.places c.args.state.now a c.in-Next.ensures c.if-write_next.ensures.fits))
+    (c.if-write_next.ensures.next refl)
 
 pub returns-clause-answer : goal.returns-clause-answer
 returns-clause-answer c =
     let a = c.action-action.result.now in
-    ap without_state (sym (step_of_action c.args.self.now c.args.state.now c.args.action a _ c.action-action.ensures.value (effects_over c.args.self.now.places c.args.state.now a c.in-Next.ensures c.if-write_effects.ensures.fits)))
+    ap without_state (sym (step_of_action c.args.self.now c.args.state.now c.args.action a _ c.action-action.ensures.value (effects_over c.args.self.now.places c.args.state.now a c.in-Next.ensures c.if-write_next.ensures.fits)))
 
 pub returns-clause-next : goal.returns-clause-next
 returns-clause-next c =
     let a = c.action-action.result.now in
-    no_next_over c.args.self.now c.args.state.now c.args.action c.write_effects.new.next (step_of_action c.args.self.now c.args.state.now c.args.action a _ c.action-action.ensures.value (effects_over c.args.self.now.places c.args.state.now a c.in-Next.ensures c.if-write_effects.ensures.fits))
+    no_next_over c.args.self.now c.args.state.now c.args.action c.write_next.new.self (step_of_action c.args.self.now c.args.state.now c.args.action a _ c.action-action.ensures.value (effects_over c.args.self.now.places c.args.state.now a c.in-Next.ensures c.if-write_next.ensures.fits))

@@ -1,0 +1,8 @@
+use Rattle.std.proofs.Common.{pos, arith}
+use Rattle.std.proofs.lemmas.List.{ext_get_or}
+use Rattle.ground_task.proofs.row.convert_values.Goals as goal
+
+pub returns-clause-values : goal.returns-clause-values
+returns-clause-values c =
+    ext_get_or (pos 0) c.each.row.values c.args.from.now.values c.each.invariant.0
+    (λ k within. c.each.invariant.1 k (omega (arith, within, c.each-test.false, c.each.invariant.0, c.value_count-place-end.ensures)))
