@@ -31,7 +31,7 @@ stands_filter test (y ∷ ys) x is (inr s) = of_test (test y) (stands_filter tes
     of_test true r = inr r
     of_test false r = r
 
-in_range : (from count n : ℕ) → from ≤ n → n < from + count → Stands n (range_with_len from count)
+pub in_range : (from count n : ℕ) → from ≤ n → n < from + count → Stands n (range_with_len from count)
 in_range from zero n low high = absurd (omega (arith, low, high))
 in_range from (suc count) n low high =
     elim (cases_lt from n) [
@@ -103,7 +103,7 @@ module _ (p : Pair) where
   objects_named readable [] known = refl
   objects_named readable (o ∷ os) known = true_both _ _ (named_at (objects_of p) readable o known.0) (objects_named readable os known.1)
 
-  whole : {A : Type 0} (xs : List A) → take (length xs) xs ≡ xs
+  pub whole : {A : Type 0} (xs : List A) → take (length xs) xs ≡ xs
   whole [] = refl
   whole (x ∷ xs) = ap (λ (ys : List _). x ∷ ys) (whole xs)
 

@@ -35,7 +35,7 @@ use Rattle.ground_meaning.proofs.Names.{names_are_words, same_words}
 
 -- ---- lists
 
-none_first : {A : Type 0} (xs : List A) → slice_get xs 0 ≡ None → xs ≡ []
+pub none_first : {A : Type 0} (xs : List A) → slice_get xs 0 ≡ None → xs ≡ []
 none_first [] h = refl
 none_first (x ∷ xs) h = cc
 
@@ -111,7 +111,7 @@ module _ (p : Pair) (readable : IsReadable p.domain p.problem) (formed : WellFor
         (other_text (is_fixed_function p) head objects names is p.domain.functions a good.0 changed.0) ∙ not_on is effects good.1 changed.1
 
   -- each changed fluent has a value before
-  set_before : (effects : List Effect) → Each GoodFluent (flat_map fluent_changed effects) → flat_map (unset_by p s.params args) effects ≡ []
+  pub set_before : (effects : List Effect) → Each GoodFluent (flat_map fluent_changed effects) → flat_map (unset_by p s.params args) effects ≡ []
       → list_all (is_effect_defined s.params args w) (flat_map (numeric_effect_by s.params args) effects) ≡ true
       → list_all (λ (c : NumericEffect). finite.contains_key w.values c.fluent) (flat_map (numeric_effect_by s.params args) effects) ≡ true
   unfolding ground_text

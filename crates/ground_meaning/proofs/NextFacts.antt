@@ -47,7 +47,7 @@ listed_once n seen [] = sym (or_false (is_listed n seen))
 listed_once n seen (m ∷ ns) =
     listed_once n (with_new seen m) ns ∙ ap (λ (b : Bool). b || is_listed n ns) (listed_new n seen m) ∙ or_assoc (is_listed n seen) (m == n) (is_listed n ns)
 
-listed_kept : (n : ℕ) (keep : ℕ → Bool) (ns : List ℕ) → is_listed n (filter keep ns) ≡ (is_listed n ns && keep n)
+pub listed_kept : (n : ℕ) (keep : ℕ → Bool) (ns : List ℕ) → is_listed n (filter keep ns) ≡ (is_listed n ns && keep n)
 listed_kept n keep [] = refl
 listed_kept n keep (m ∷ ns) = by_test (keep m) (m == n) refl refl (listed_kept n keep ns)
   where

@@ -31,13 +31,10 @@ use Rattle.ground_meaning.proofs.CodedAtoms.{atom_there}
 use Rattle.ground_meaning.proofs.EffectAtoms.{told_apart}
 use Rattle.ground_meaning.proofs.GoalTruth.{few_function_parameters, few_predicate_parameters}
 use Rattle.ground_meaning.proofs.LegalArguments.{objects_named}
+use Rattle.ground_meaning.proofs.Lists.{each_of_all}
 use Rattle.ground_meaning.proofs.Names.{names_are_words}
 use Rattle.ground_meaning.proofs.NextFacts.{IsTold}
 use Rattle.ground_meaning.proofs.NextValues.{IsReadyEffect}
-
-each_of : {A : Type 0} (P : A → Type 0) (xs : List A) → All P xs → Each P xs
-each_of P [] h = tt
-each_of P (x ∷ xs) h = (All-head P x xs h, each_of P xs (All-tail P x xs h))
 
 pub sig_named : (sigs : List Sig) → All IsReadableSignature sigs → (n : ℕ) → n < length sigs → is_name (head_text sigs n) ≡ true
 sig_named [] h n within = absurd (omega (arith, within))
@@ -56,7 +53,7 @@ module _ (p : Pair) (readable : IsReadable p.domain p.problem) where
   pub atom_named : (sigs : List Sig) → All IsReadableSignature sigs → (y : List (List ℕ)) → IsAtomOf p sigs (λ n os. head_text sigs n ∷ names p os) y → list_all is_name y ≡ true
   atom_named sigs all y a =
       ap (list_all is_name) a.is
-      ∙ true_both _ _ (sig_named sigs all a.symbol a.declared) (objects_named p all_objects a.objects (each_of (λ o. o < length (objects_of p)) a.objects a.known))
+      ∙ true_both _ _ (sig_named sigs all a.symbol a.declared) (objects_named p all_objects a.objects (each_of_all (λ o. o < length (objects_of p)) a.objects a.known))
 
   -- two atoms are told apart by codes and by texts alike
   pub told : (sigs : List Sig) → All IsReadableSignature sigs → (x y : List (List ℕ))

@@ -71,7 +71,7 @@ schema_there name (z ∷ zs) s h = by_test (bytes_eq name z.name.text) refl h (�
     by_test true e k more = let same = same_Some z s k in (inl (sym same), (bytes_eq-Decides name z.name.text).0 e ∙ ap (λ (u : Schema). u.name.text) same)
     by_test false e k more = let rest = more k in (inr rest.0, rest.1)
 
-ready_parts : (s : Schema) (args : List (List ℕ)) (w : WorldValue) → is_ready s args w ≡ true
+pub ready_parts : (s : Schema) (args : List (List ℕ)) (w : WorldValue) → is_ready s args w ≡ true
     → (is_defined s.params args w s.pre ≡ true) × (are_effects_defined s.params args w (numeric_effects s.params args s.effects) ≡ true) × (are_compatible (numeric_effects s.params args s.effects) ≡ true)
 unfolding is_ready
 ready_parts s args w h =

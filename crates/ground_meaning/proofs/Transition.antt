@@ -49,7 +49,7 @@ use Rattle.ground_meaning.proofs.ExpressionFolds as expressions
 use Rattle.ground_meaning.proofs.GoalTruth.{if_is}
 use Rattle.ground_meaning.proofs.KeptActions.{IsKept, action_parts, stands_map}
 use Rattle.ground_meaning.proofs.LegalArguments.{objects_named}
-use Rattle.ground_meaning.proofs.Lists.{stands_left, stands_right}
+use Rattle.ground_meaning.proofs.Lists.{each_where, stands_left, stands_right}
 use Rattle.ground_meaning.proofs.NextFacts.{fact_by_number, number_told}
 use Rattle.ground_meaning.proofs.NextValues.{Made, change_at, changes_made}
 use Rattle.ground_meaning.proofs.Numbering.{value_numbered}
@@ -58,16 +58,12 @@ use Rattle.ground_meaning.proofs.Standing.{as_many_facts, fact_codes, fact_text,
 
 -- ---- lists
 
-each_where : {A : Type 0} (P : A → Type 0) (xs : List A) → ((x : A) → Stands x xs → P x) → Each P xs
-each_where P [] h = tt
-each_where P (x ∷ xs) h = (h x (inl refl), each_where P xs (λ y s. h y (inr s)))
-
-stands_index : {A : Type 0} (xs : List A) (n : ℕ) (d : A) → n < length xs → Stands (slice_index_or xs n d) xs
+pub stands_index : {A : Type 0} (xs : List A) (n : ℕ) (d : A) → n < length xs → Stands (slice_index_or xs n d) xs
 stands_index [] n d h = absurd (omega (arith, h))
 stands_index (x ∷ xs) zero d h = inl refl
 stands_index (x ∷ xs) (suc n) d h = inr (stands_index xs n d (omega (arith, h)))
 
-listed_stands : (n : ℕ) (ns : List ℕ) → is_listed n ns ≡ true → Stands n ns
+pub listed_stands : (n : ℕ) (ns : List ℕ) → is_listed n ns ≡ true → Stands n ns
 listed_stands n [] h = cc
 listed_stands n (m ∷ ns) h = by_test (m == n) refl h (λ k. listed_stands n ns k)
   where
@@ -75,7 +71,7 @@ listed_stands n (m ∷ ns) h = by_test (m == n) refl h (λ k. listed_stands n ns
     by_test true e k more = inl (sym (eqb-true m n e))
     by_test false e k more = inr (more k)
 
-stands_listed : (n : ℕ) (ns : List ℕ) → Stands n ns → is_listed n ns ≡ true
+pub stands_listed : (n : ℕ) (ns : List ℕ) → Stands n ns → is_listed n ns ≡ true
 stands_listed n [] s = elim s [ ]
 stands_listed n (m ∷ ns) (inl e) = ap (λ (b : Bool). b || is_listed n ns) (eq-eqb m n (sym e))
 stands_listed n (m ∷ ns) (inr s) = ap (λ (b : Bool). (m == n) || b) (stands_listed n ns s) ∙ or_true (m == n)
@@ -120,13 +116,13 @@ change_numbered codes x n there told (c ∷ cs) = by_test (is_listed c.fluent co
     by_test true is rest = of_number (c.fluent == n) refl (told c.fluent (listed_stands c.fluent codes is)) rest
     by_test false is rest = rest ∙ sym (ap (λ (t : Bool). option_map (λ c. numbered_change codes (as_numeric_effect c).1) (cond t (Some c) (change_at n cs))) (not_this is (c.fluent == n) refl))
 
-single_value : (operate : _) (h : Assign) (old x sum other : Option Decimal) → is_joined h ≡ false → value_after operate h old x sum ≡ value_after operate h old x other
+pub single_value : (operate : _) (h : Assign) (old x sum other : Option Decimal) → is_joined h ≡ false → value_after operate h old x sum ≡ value_after operate h old x other
 single_value operate how.Set old x sum other single = refl
 single_value operate how.Up old x sum other single = cc
 single_value operate how.Down old x sum other single = cc
 single_value operate how.Scale old x sum other single = refl
 
-joined_value : (operate : _) (h : Assign) (old x sum : Option Decimal) → is_joined h ≡ true → value_after operate h old x sum ≡ combined operate op.Add old sum
+pub joined_value : (operate : _) (h : Assign) (old x sum : Option Decimal) → is_joined h ≡ true → value_after operate h old x sum ≡ combined operate op.Add old sum
 joined_value operate how.Set old x sum joined = cc
 joined_value operate how.Up old x sum joined = refl
 joined_value operate how.Down old x sum joined = refl

@@ -7,3 +7,5 @@ pub mod Goals
 pub mod Tasks
 pub mod Refusals
 pub mod Worlds
+pub mod Plans
+pub mod Answers

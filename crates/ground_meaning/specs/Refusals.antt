@@ -46,7 +46,7 @@ pub data IsRefused (p : Pair) : GroundFault → Type 0 where
   by_places : (raw : RawTask) (f : PlacesFault) → IsGroundTask p raw → IsPlacesFault raw f → IsRefused p (places_refusal raw f)
   by_memory : IsRefused p fault.NoMemory
 
--- the task of the pair, with the least places, of which each is at most 9
+-- the task of the pair, with the least places, cut at 10; that they suffice is said by `IsWholeTask`
 pub record IsGrounded (p : Pair) (t : TaskValue) : Type 0 where
   pub task : IsGroundTask p t.raw
   pub places : IsLeastPlaces t.raw t.places
