@@ -8,3 +8,4 @@ pub mod Judged
 pub mod Extended
 pub mod Survived
 pub mod Known
+pub mod Served

@@ -46,7 +46,8 @@ impl Slot {
         }
     }
 
-    fn value(self, row: &[u32]) -> u32
+    /// The object in it, where parameters are bound to the objects of a row.
+    pub(crate) fn value(self, row: &[u32]) -> u32
         ensures { result ≡ slot_value row.now self }
     {
         match self {
@@ -111,7 +112,8 @@ fn is_met(
     }
 }
 
-fn holds(
+/// Whether a row meets a check. The buffer is for the objects of a fact.
+pub(crate) fn holds(
     statics: &Statics,
     row: &[u32],
     check: &Check,

@@ -1,11 +1,15 @@
 //! The rows that survive, one parameter after another.
 
-ghost use Rattle.std.specs.Prelude.{◌≡◌, ◌+◌, ◌++◌, [], ◌∷◌, ◌≤◌, ◌<◌, IfOk, OnOk, MatchResult, flat_map, length, IsTrue, ◌↔◌};
+ghost use Rattle.std.specs.Prelude.{◌≡◌, ◌+◌, ◌++◌, [], ◌∷◌, ◌≤◌, ◌<◌, List, IfOk, OnOk, MatchResult, flat_map, length, IsTrue, ◌↔◌};
 ghost use Rattle.pddl_terms.specs.declared.limits.TheConstants.{MAX_PREFIXES};
 ghost use Rattle.static_facts.specs.Bindings.{fitting};
+ghost use Rattle.pddl_types.specs.declared.pairs.Pair.{Pair};
+ghost use Rattle.binder.specs.declared.checks.Check.{Check};
+ghost use Rattle.binder.specs.internal.Candidates.{Serves};
 ghost use Rattle.binder.specs.internal.Checks.{extensions};
 ghost use Rattle.binder.specs.internal.Levels.{IsOver, counted, first_rows, grown};
 
+use crate::candidates::{Candidates, find_candidates};
 use crate::checks::{Check, extends};
 use crate::rows::Rows;
 use num_ends::NoMemory;
@@ -52,7 +56,8 @@ fn fitting(alloc: Global, checked: &Checked, param: &Typed) -> Result<Vec<u32>, 
     Ok(objects)
 }
 
-fn set_row(row: &mut Vec<u32>, prefix: &[u32], object: u32) -> Result<(), NoMemory>
+/// Makes a row of another one and an object.
+pub(crate) fn set_row(row: &mut Vec<u32>, prefix: &[u32], object: u32) -> Result<(), NoMemory>
     ensures { OnOk result (row.new.items ≡ prefix.now ++ object ∷ []) }
 {
     row.clear();
@@ -83,6 +88,37 @@ fn push_extensions(
     Ok(())
 }
 
+// The candidates for a row, or all objects where there is no list for it.
+#[tactic(auto, using(crate::proofs::Served::served_rows, crate::proofs::Served::served_few))]
+fn chosen<'a>(candidates: &'a Candidates, objects: &'a [u32], prefix: &[u32]) -> &'a [u32]
+    ensures rows { (p : Pair) (checks : List Check) → Serves p checks objects.now (length prefix.now) candidates.now → extensions p checks result.now prefix.now ≡ extensions p checks objects.now prefix.now }
+    ensures few { (p : Pair) (checks : List Check) → Serves p checks objects.now (length prefix.now) candidates.now → length result.now ≤ length objects.now }
+{
+    match candidates.list(prefix) {
+        Some(found) => found,
+        None => objects,
+    }
+}
+
+// The same rows, by the candidates for the row.
+fn push_next(
+    tester: &Tester,
+    candidates: &Candidates,
+    objects: &[u32],
+    prefix: &[u32],
+    rows: &mut Rows,
+    row: &mut Vec<u32>,
+    buffer: &mut Vec<u32>,
+) -> Result<(), NoMemory>
+    requires serves { Serves tester.now.statics.now tester.now.checks.now objects.now (length prefix.now) candidates.now }
+    requires width { rows.old.0 ≡ length prefix.now + 1 }
+    requires room { length rows.old.1 + length objects.now < 9223372036854775808 }
+    ensures { OnOk result (rows.new ≡ (rows.old.0, rows.old.1 ++ extensions tester.now.statics.now tester.now.checks.now objects.now prefix.now)) }
+{
+    let chosen = chosen(candidates, objects, prefix);
+    push_extensions(tester, chosen, prefix, rows, row, buffer)
+}
+
 fn is_over(count: usize, taken: usize) -> bool
     requires { taken ≤ MAX_PREFIXES }
     ensures { IsTrue result ↔ (MAX_PREFIXES < count + taken) }
@@ -91,24 +127,35 @@ fn is_over(count: usize, taken: usize) -> bool
 }
 
 // The rows that go on from others by one of some objects, where these and those that were taken before aren't too many.
+// The count is that of all objects.
 fn next_rows(
     alloc: Global,
     tester: &Tester,
     objects: &[u32],
     rows: &Rows,
     taken: usize,
+    count: u32,
 ) -> Result<Rows, LevelFault>
     requires taken { taken ≤ MAX_PREFIXES }
     requires objects { length objects.now < 4294967296 }
     requires width { rows.now.0 ≤ 8 }
     ensures { MatchResult result (λ next. (next ≡ (rows.now.0 + 1, flat_map (extensions tester.now.statics.now tester.now.checks.now objects.now) rows.now.1)) × (length next.1 + taken ≤ MAX_PREFIXES)) (λ fault. IsOver fault (length (flat_map (extensions tester.now.statics.now tester.now.checks.now objects.now) rows.now.1) + taken)) }
 {
+    let candidates = find_candidates(alloc, tester, objects, rows, count)?;
     let mut next = Rows::new(alloc, rows.width() + 1);
     let mut row = Vec::new(alloc);
     let mut buffer = Vec::new(alloc);
     'each: for number in 0..rows.count() {
         let prefix = rows.row(number);
-        push_extensions(tester, objects, prefix, &mut next, &mut row, &mut buffer)?;
+        push_next(
+            tester,
+            &candidates,
+            objects,
+            prefix,
+            &mut next,
+            &mut row,
+            &mut buffer,
+        )?;
         if is_over(next.count(), taken) {
             return Err(LevelFault::TooMany);
         }
@@ -145,7 +192,14 @@ pub(crate) fn grown(
     let mut taken = 0;
     'params: for param in params {
         let objects = fitting(alloc, checked, param)?;
-        match next_rows(alloc, tester, objects.as_slice(), &rows, taken) {
+        match next_rows(
+            alloc,
+            tester,
+            objects.as_slice(),
+            &rows,
+            taken,
+            checked.objects(),
+        ) {
             Ok(next) => {
                 taken += next.count();
                 rows = next;

@@ -2,6 +2,7 @@
 #![tactic(auto)]
 
 mod bindings;
+mod candidates;
 mod checks;
 mod levels;
 mod resolve;
