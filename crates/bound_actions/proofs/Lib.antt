@@ -1,0 +1,8 @@
+mod Conflicts
+mod ReadyAtoms
+mod Looked
+pub mod Members
+mod ReadyPatterns
+mod FactCodes
+mod Spelling
+mod FirstUnset

@@ -1,0 +1,7 @@
+use Rattle.bound_atoms.proofs.Seen.{fact_code_seen}
+use Rattle.bound_atoms.proofs.bound.FactPattern.code.Goals as goal
+
+pub returns : goal.returns
+returns c =
+    fact_code_seen c.self.inside.checked.now c.self.inside.statics.now c.self.inside.params.now c.self.inside.atom.now c.self.inside.slots c.args.objects.now c.args.self.now c.self.view_is
+    c.requires.as_many c.requires.known c.code.result c.self.invariant c.code.ensures

@@ -1,0 +1,4 @@
+pub mod Slots
+pub mod Symbols
+pub mod Atoms
+pub mod Patterns

@@ -1,0 +1,5 @@
+mod Grown
+mod Folded
+mod Outcomes
+mod SameParts
+mod Found
