@@ -1,0 +1,10 @@
+use Rattle.std.proofs.Common.{◌≡◌, ◌++◌, drop}
+use Rattle.std.specs.Prelude.{flat_map}
+use Rattle.ground_meaning.specs.Tasks.{condition_facts}
+use Rattle.coded_actions.specs.Coded.{condition_of}
+use Rattle.numbering.proofs.facts.+fact_conditions.Given as goal
+
+abbrev pub invariant-add_members-each : goal.invariant-add_members-each
+invariant-add_members-each l =
+    l.codes.items ++ flat_map (λ c. condition_facts (condition_of c)) (drop l.cond-index l.conds)
+    ≡ l.initial.codes.items ++ flat_map (λ c. condition_facts (condition_of c)) l.conds
