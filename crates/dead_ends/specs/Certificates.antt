@@ -1,6 +1,9 @@
 -- Certificates that no plan exists: a list of boxes and a list of states.
-use Rattle.std.specs.Prelude.{ℕ, ◌≡◌, ◌⊎◌, List, false}
+use Rattle.std.specs.Prelude.{ℕ, ◌≡◌, ◌≢◌, ◌<◌, ◌⊎◌, List, false, length}
+use Rattle.ground_task.specs.declared.answers.Applied.TheVariants as step
+use Rattle.ground_task.specs.declared.answers.Truth.TheVariants as truth
 use Rattle.ground_task.specs.Meaning.{holds}
+use Rattle.ground_task.specs.Ranged.{ranged_goal, ranged_step}
 use Rattle.ground_task.specs.States.{StateValue}
 use Rattle.ground_task.specs.Steps.{StepLeads}
 use Rattle.ground_task.specs.Tasks.{TaskValue}
@@ -23,3 +26,17 @@ pub record IsGood (t : TaskValue) (boxes : List StateBox) (states : List StateVa
   pub steps : (s next : StateValue) (a : ℕ) → IsListed states s → StepLeads t a s next
       → IsCovered t boxes states next
   pub initial : IsCovered t boxes states (initial_state t)
+
+-- The same with no number out of its range: the goal is false in each state on the list, and each ground action is
+-- blocked there or leads to a covered state.
+pub record IsProved (t : TaskValue) (boxes : List StateBox) (states : List StateValue) : Type 0 where
+  pub dead : (b : ℕ) (box : StateBox) → IsAt boxes b box → IsDead t box
+  pub misses : (s : StateValue) → IsListed states s → ranged_goal t s ≡ truth.No
+  pub steps : (s : StateValue) (a : ℕ) → IsListed states s → a < length t.raw.actions
+      → (ranged_step t s a ≡ step.Blocked) ⊎ ((next : StateValue) × (ranged_step t s a ≡ step.Next next) × IsCovered t boxes states next)
+  pub initial : IsCovered t boxes states (initial_state t)
+
+-- in no state on the list does a number leave its range, at the goal or at a ground action
+pub record IsNowhereOver (t : TaskValue) (states : List StateValue) : Type 0 where
+  pub goal : (s : StateValue) → IsListed states s → ranged_goal t s ≢ truth.Over
+  pub steps : (s : StateValue) (a : ℕ) → IsListed states s → a < length t.raw.actions → ranged_step t s a ≢ step.Over

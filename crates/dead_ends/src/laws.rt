@@ -9,7 +9,7 @@ ghost use Rattle.ground_task.specs.Tasks.{TaskValue};
 ghost use Rattle.box_model.specs.declared.state_box.StateBox.{StateBox};
 ghost use Rattle.box_model.specs.Hold.{may_hold};
 ghost use Rattle.box_model.specs.Least.{IsLeastClosed};
-ghost use Rattle.dead_ends.specs.Certificates.{IsGood};
+ghost use Rattle.dead_ends.specs.Certificates.{IsGood, IsNowhereOver, IsProved};
 ghost use Rattle.dead_ends.specs.Reachable.{IsDeadState, IsLive, IsLiveReachable};
 
 use box_model::{dead_boxes_have_no_plan, least_boxes_in_dead_ones_are_dead};
@@ -46,3 +46,14 @@ pub fn good_certificates_exclude_plans()
     initial();
     dead_boxes_have_no_plan();
 }
+
+/// A certificate is proved within the range exactly where it is good and no number leaves its range in a state on its
+/// list.
+pub fn proved_certificates_are_the_good_ones()
+    ensures good { (t : TaskValue) (boxes : List StateBox) (states : List StateValue)
+        → IsPlaced t.raw t.places → IsProved t boxes states → IsGood t boxes states }
+    ensures nowhere_over { (t : TaskValue) (boxes : List StateBox) (states : List StateValue)
+        → IsProved t boxes states → IsNowhereOver t states }
+    ensures proved { (t : TaskValue) (boxes : List StateBox) (states : List StateValue)
+        → IsPlaced t.raw t.places → IsGood t boxes states → IsNowhereOver t states → IsProved t boxes states }
+{}
