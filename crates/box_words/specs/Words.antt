@@ -52,10 +52,13 @@ number_of w = if nat_lt w (2 ^ 127) then neg_ℤ (pos (2 ^ 127 - w)) else pos (w
 abbrev pub decimal_of : ℕ → ℕ → ℕ → Decimal
 decimal_of places high low = record { n = number_of (high * 2 ^ 64 + low); p = places }
 
+-- the finite end of this kind
+abbrev pub finite_end : ℕ → Decimal → End
+finite_end kind d = if kind == 1 then Excl d else Incl d
+
 -- the end of a side whose infinite end is this
 abbrev pub end_of : End → ℕ → ℕ → ℕ → ℕ → End
-end_of infinite kind places high low =
-    if kind == 0 then infinite else (if kind == 1 then Excl (decimal_of places high low) else Incl (decimal_of places high low))
+end_of infinite kind places high low = if kind == 0 then infinite else finite_end kind (decimal_of places high low)
 
 abbrev pub fact_at : List ℕ → ℕ → May
 fact_at words f = may_of (slice_index words f)

@@ -20,7 +20,9 @@ impl DeadRows {
     ghost use Rattle.dead_rows.specs.Looks.{WasReady, IsPassed, ArePassed, IsHit, HasLooked};
     ghost use Rattle.dead_rows.specs.Readings.{IsFor};
 
-    // Whether the box of a row that the seat knows contains a state.
+    // Whether the box of a row that the seat knows contains a state. A call of its own, so that the loop over rows that
+    // aren't ready stays small.
+    #[inline(never)]
     fn contains(&self, seat: &mut RowSeat, row: usize, state: &State) -> bool
         requires seat { CanRead (store_id self.now) seat.old row }
         requires state { IsFor (task_of self.now) state.now }

@@ -19,6 +19,14 @@ impl<E: Entries> WordRows<E> {
     ghost use Rattle.word_rows.specs.Rule.{row_start};
     ghost use Rattle.word_rows.specs.Tables.{view_of, IsFitting, id_of, entries_of, width_of};
 
+    /// The place of the first word of a row.
+    pub fn start(&self, row: usize) -> usize
+        requires row { row < 1024 }
+        ensures start { result ≡ row_start (width_of self.now) row }
+    {
+        FIRST + row * self.width
+    }
+
     // The place of a word of a row.
     fn place(&self, row: usize, index: usize) -> usize
         requires row { row < 1024 }
@@ -26,7 +34,7 @@ impl<E: Entries> WordRows<E> {
         ensures place { result ≡ row_start (width_of self.now) row + index }
         ensures inside { result < 1025 + 1024 * width_of self.now }
     {
-        FIRST + row * self.width + index
+        self.start(row) + index
     }
 
     /// Draws the next number. Where there is a row of this number, it is the seat's to write. A seat, with those
@@ -76,6 +84,19 @@ impl<E: Entries> WordRows<E> {
         self.table.shared.load::<Brand>(seat, row + READY) == 1
     }
 
+    /// A word of a row that the seat knows, where the place of the row's first word is at hand.
+    pub fn load_word_from(&self, seat: &mut RowSeat, row: usize, start: usize, index: usize) -> u64
+        requires seat { IsFitting (id_of self.now) seat.old }
+        requires row { row < 1024 }
+        requires start { start ≡ row_start (width_of self.now) row }
+        requires index { index < width_of self.now }
+        ensures seat { IsFitting (id_of self.now) seat.new }
+        ensures view { view_of seat.new ≡ view_of seat.old }
+        ensures word { (words : List ℕ) → Knows (view_of seat.old) row words → result ≡ slice_index words index }
+    {
+        self.table.shared.load::<Brand>(seat, start + index)
+    }
+
     /// A word of a row that the seat knows.
     pub fn load_word(&self, seat: &mut RowSeat, row: usize, index: usize) -> u64
         requires seat { IsFitting (id_of self.now) seat.old }
@@ -85,7 +106,7 @@ impl<E: Entries> WordRows<E> {
         ensures view { view_of seat.new ≡ view_of seat.old }
         ensures word { (words : List ℕ) → Knows (view_of seat.old) row words → result ≡ slice_index words index }
     {
-        let place = self.place(row, index);
-        self.table.shared.load::<Brand>(seat, place)
+        let start = self.start(row);
+        self.load_word_from(seat, row, start, index)
     }
 }
