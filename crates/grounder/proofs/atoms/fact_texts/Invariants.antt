@@ -1,0 +1,7 @@
+use Rattle.std.proofs.Common.{◌≡◌, map, take}
+use Rattle.static_facts.specs.Atoms.{text_of_atom}
+use Rattle.grounder.specs.internal.Decoded.{fact_of}
+use Rattle.grounder.proofs.atoms.fact_texts.Given as goal
+
+abbrev pub invariant-each : goal.invariant-each
+invariant-each l = l.texts.items ≡ map (λ n. text_of_atom (fact_of l.checked n)) (take l.code-index l.codes)
