@@ -71,8 +71,13 @@ static CALLS: [(&str, (&str, &str, &str), u8, &str); 48] = [
         1,
         "MISSED\nbox (x)=[6,inf) (y)=(-inf,-4]\n",
     ),
-    // pairs that aren't plain
-    (RELAX, (TRANSFER, TWO_PLACES, ""), 4, UNBUILT),
+    // parameters, facts, decimals, and conditions of all kinds
+    (
+        RELAX,
+        (TRANSFER, TWO_PLACES, ""),
+        0,
+        "MET\nbox (x a)=[0,inf) (x b)=[0,inf)\n",
+    ),
     (
         RELAX,
         (
@@ -80,8 +85,8 @@ static CALLS: [(&str, (&str, &str, &str), u8, &str); 48] = [
             THREE,
             "",
         ),
-        4,
-        UNBUILT,
+        1,
+        "MISSED\nbox (x)=[0,0]\n",
     ),
     (
         RELAX,
@@ -90,8 +95,8 @@ static CALLS: [(&str, (&str, &str, &str), u8, &str); 48] = [
             THREE,
             "",
         ),
-        4,
-        UNBUILT,
+        0,
+        "MET\nbox (x)=[0,inf)\n",
     ),
     (
         RELAX,
@@ -100,8 +105,8 @@ static CALLS: [(&str, (&str, &str, &str), u8, &str); 48] = [
             THREE,
             "",
         ),
-        4,
-        UNBUILT,
+        1,
+        "MISSED\nbox (x)=[0,0]\n",
     ),
     (
         RELAX,
@@ -110,8 +115,8 @@ static CALLS: [(&str, (&str, &str, &str), u8, &str); 48] = [
             "(define (problem p) (:domain d) (:init (= (x) 0)) (:goal (or (>= (x) 3))))",
             "",
         ),
-        4,
-        UNBUILT,
+        0,
+        "MET\nbox (x)=[0,inf)\n",
     ),
     (
         RELAX,
@@ -120,8 +125,8 @@ static CALLS: [(&str, (&str, &str, &str), u8, &str); 48] = [
             "(define (problem p) (:domain d) (:init (= (x) 0)) (:goal (and (and (>= (x) 3)))))",
             "",
         ),
-        4,
-        UNBUILT,
+        0,
+        "MET\nbox (x)=[0,inf)\n",
     ),
     (
         RELAX,
@@ -130,8 +135,8 @@ static CALLS: [(&str, (&str, &str, &str), u8, &str); 48] = [
             THREE,
             "",
         ),
-        4,
-        UNBUILT,
+        1,
+        "MISSED\nbox (x)=[0,0]\n",
     ),
     (
         RELAX,
@@ -140,8 +145,8 @@ static CALLS: [(&str, (&str, &str, &str), u8, &str); 48] = [
             THREE,
             "",
         ),
-        4,
-        UNBUILT,
+        1,
+        "MISSED\nbox (x)=[0,0]\n",
     ),
     (
         RELAX,
@@ -150,8 +155,8 @@ static CALLS: [(&str, (&str, &str, &str), u8, &str); 48] = [
             THREE,
             "",
         ),
-        4,
-        UNBUILT,
+        1,
+        "MISSED\nbox (x)=[0,0]\n",
     ),
     (
         RELAX,
@@ -160,8 +165,8 @@ static CALLS: [(&str, (&str, &str, &str), u8, &str); 48] = [
             THREE,
             "",
         ),
-        4,
-        UNBUILT,
+        0,
+        "MET\nbox (p)=any (x)=[0,inf)\n",
     ),
     (
         RELAX,
@@ -170,8 +175,8 @@ static CALLS: [(&str, (&str, &str, &str), u8, &str); 48] = [
             THREE,
             "",
         ),
-        4,
-        UNBUILT,
+        1,
+        "MISSED\nbox (x)=(-inf,0]\n",
     ),
     (
         RELAX,
@@ -180,8 +185,8 @@ static CALLS: [(&str, (&str, &str, &str), u8, &str); 48] = [
             THREE,
             "",
         ),
-        4,
-        UNBUILT,
+        1,
+        "MISSED\nbox (x)=(-inf,0]\n",
     ),
     (
         RELAX,
@@ -191,7 +196,7 @@ static CALLS: [(&str, (&str, &str, &str), u8, &str); 48] = [
             "",
         ),
         4,
-        UNBUILT,
+        "REFUSED UNSET (x)\n",
     ),
     (
         RELAX,
@@ -200,8 +205,8 @@ static CALLS: [(&str, (&str, &str, &str), u8, &str); 48] = [
             "(define (problem p) (:domain d) (:init (= (x) 0.5)) (:goal (>= (x) 3)))",
             "",
         ),
-        4,
-        UNBUILT,
+        0,
+        "MET\nbox (x)=[0.5,inf)\n",
     ),
     (
         RELAX,
@@ -210,8 +215,8 @@ static CALLS: [(&str, (&str, &str, &str), u8, &str); 48] = [
             "(define (problem p) (:domain d) (:init (= (y) -4) (= (x) 6)) (:goal (and (= (x) 3))))",
             "",
         ),
-        4,
-        UNBUILT,
+        1,
+        "MISSED\nbox (x)=[6,inf)\n",
     ),
     // first reasons against two texts
     (RELAX, ("", THREE, ""), 4, "REFUSED domain 1:1 SHAPE\n"),
@@ -389,7 +394,11 @@ fn words_of(alloc: Global, line: &str) -> Result<Vec<String>, AllocError> {
     Ok(words)
 }
 
-fn folder_of(alloc: Global, texts: (&str, &str, &str)) -> Result<List<(Text, Text)>, AllocError> {
+/// The files `d.pddl`, `p.pddl` and `plan.txt` with these texts.
+pub(crate) fn folder_of(
+    alloc: Global,
+    texts: (&str, &str, &str),
+) -> Result<List<(Text, Text)>, AllocError> {
     let mut all = Vec::new(alloc);
     all.push((text_of(alloc, "d.pddl")?, text_of(alloc, texts.0)?))?;
     all.push((text_of(alloc, "p.pddl")?, text_of(alloc, texts.1)?))?;
@@ -398,7 +407,7 @@ fn folder_of(alloc: Global, texts: (&str, &str, &str)) -> Result<List<(Text, Tex
 }
 
 /// The status and the bytes of a call, where this call of the files and this write fail.
-fn outcome(
+pub(crate) fn outcome(
     alloc: Global,
     line: &str,
     folder: List<(Text, Text)>,

@@ -1,5 +1,5 @@
-//! Tests of the program by public calls: the words, the files read whole, plain pairs, and whole calls over files and an
-//! output in memory.
+//! Tests of the program by public calls: the words, the files read whole, and whole calls over files and an output in memory,
+//! among them those of `relax` over pairs of all kinds.
 #![tactic(auto)]
 
 #[cfg(test)]
@@ -7,6 +7,6 @@ mod calls;
 #[cfg(test)]
 mod files;
 #[cfg(test)]
-mod plain;
+mod relaxations;
 #[cfg(test)]
 mod words;

@@ -1,4 +1,3 @@
 pub mod Answered
 pub mod Ends
 pub mod LeastBox
-pub mod Places

@@ -1,54 +1,76 @@
 //! What the command answers.
 
-ghost use Rattle.std.specs.Prelude.{◌≡◌, ◌≤◌, ◌^◌, length, IfOk};
+ghost use Rattle.std.specs.Prelude.{◌≤◌, ◌^◌, length, IfErr, IfOk};
 ghost use Rattle.relax_command.specs.Answers.{IsAnswer};
-ghost use Rattle.relax_command.specs.Relaxations.{IsRelaxed, box_answer};
+ghost use Rattle.relax_command.specs.Faults.{IsFault, IsPairFault};
+ghost use Rattle.relax_command.specs.Relaxations.{IsRelaxed};
+ghost use Rattle.run_answers.specs.Accepted.{Accepts};
 
-use crate::relaxation::{Relaxation, relaxation_of};
-use box_model::StateBox;
-use cert_text::write_box;
+use crate::relaxation::task_answer;
 use ground_task::Task;
-use num_ends::{List, NoMemory};
-use pair_text::PairFault;
+use ground_text::grounding_fault;
+use grounder::ground;
+use num_ends::NoMemory;
+use pair_text::{PairFault, read_pair};
+use pddl_types::Checked;
 use run_answers::{Answer, refused};
 use std::alloc::Global;
 
-/// Whether the goal is met or missed in a box, and the line of the box.
-fn box_answer(alloc: Global, task: &Task, part: &StateBox) -> Result<Answer, NoMemory>
-    requires { IsRelaxed task.now part.now }
-    ensures { IfOk result (λ answer. answer ≡ box_answer task.now part.now) }
+// Lets a task go.
+fn discard(_task: Task) {}
+
+// What is answered of a checked pair that two texts spell.
+fn of_pair(
+    alloc: Global,
+    domain: &[u8],
+    problem: &[u8],
+    checked: &Checked,
+) -> Result<Answer, PairFault>
+    requires domain_size { length domain.now ≤ 2 ^ 30 }
+    requires problem_size { length problem.now ≤ 2 ^ 30 }
+    ensures relaxed { IfOk result (IsRelaxed checked.now) }
+    ensures fault { IfErr result (IsPairFault domain.now problem.now checked.now) }
 {
-    let mut text = List::new(alloc);
-    let status = if part.misses_goal(task) {
-        text.extend_from_slice(b"MISSED\n")?;
-        1
-    } else {
-        text.extend_from_slice(b"MET\n")?;
-        0
-    };
-    write_box(alloc, task, part, &mut text)?;
-    Ok(Answer { status, text })
+    match ground(alloc, checked) {
+        Ok(task) => {
+            let answer = task_answer(alloc, &task);
+            discard(task);
+            answer
+        }
+        Err(fault) => Err(grounding_fault(alloc, domain, problem, fault)),
+    }
 }
 
-// Lets a relaxation go.
-fn discard(_relaxation: Relaxation) {}
+// What is answered of the pair that two texts spell.
+fn of_texts(alloc: Global, domain: &[u8], problem: &[u8]) -> Result<Answer, PairFault>
+    requires domain_size { length domain.now ≤ 2 ^ 30 }
+    requires problem_size { length problem.now ≤ 2 ^ 30 }
+    ensures relaxed { IfOk result (λ answer. Accepts (λ pair. IsRelaxed pair answer) domain.now problem.now) }
+    ensures fault { IfErr result (IsFault domain.now problem.now) }
+{
+    match read_pair(alloc, domain, problem) {
+        Ok(checked) => {
+            let answer = of_pair(alloc, domain, problem, &checked);
+            checked.discard();
+            answer
+        }
+        Err(fault) => Err(fault),
+    }
+}
 
 /// What `relax` answers to the texts of a domain and a problem, of at most 2^30 bytes each: the least closed box that the
-/// task of their pair can reach, with status 0 where the goal may hold in it and 1 where it may not; else why they are refused.
+/// ground task of their pair can reach, with status 0 where the goal may hold in it and 1 where it may not, so that the pair
+/// has no plan; else why they are refused.
 ///
 /// # Errors
-/// `NoMemory` where there is none for the pair, the box or the text.
+/// `NoMemory` where there is none for the pair, its task, the box or the text.
 pub fn answer(alloc: Global, domain: &[u8], problem: &[u8]) -> Result<Answer, NoMemory>
     requires domain_size { length domain.now ≤ 2 ^ 30 }
     requires problem_size { length problem.now ≤ 2 ^ 30 }
     ensures { IfOk result (IsAnswer domain.now problem.now) }
 {
-    match relaxation_of(alloc, domain, problem) {
-        Ok(found) => {
-            let answer = box_answer(alloc, &found.task, &found.part);
-            discard(found);
-            answer
-        }
+    match of_texts(alloc, domain, problem) {
+        Ok(answer) => Ok(answer),
         Err(PairFault::Refused(refusal)) => refused(alloc, &refusal),
         Err(PairFault::NoMemory) => Err(NoMemory),
     }

@@ -1,145 +1,68 @@
-//! The relaxation of what two texts spell.
+//! The least closed box of a task, and what it says of the goal.
 
-ghost use Rattle.std.specs.Prelude.{◌≡◌, ◌<◌, ◌≤◌, ◌^◌, ℕ, List, length, map, slice_index_or, IfErr, IfOk};
-ghost use Rattle.num_ends.specs.Decimal.{origin, InRange};
-ghost use Rattle.ground_task.specs.Plain.{IsPlain};
-ghost use Rattle.ground_task.specs.Valid.{IsValid};
-ghost use Rattle.relax_command.specs.Faults.{IsFault, IsPairFault};
-ghost use Rattle.relax_command.specs.Relaxations.{IsRelaxed, IsTaskOf};
-ghost use Rattle.run_answers.specs.Accepted.{Accepts};
+ghost use Rattle.std.specs.Prelude.{◌≡◌, ◌<◌, ◌≤◌, IfErr, IfOk, ⊤};
+ghost use Rattle.ground_task.specs.Tasks.{first_state};
+ghost use Rattle.box_model.specs.Boxes.{IsBoxOf};
+ghost use Rattle.box_model.specs.Least.{IsLeastClosed};
+ghost use Rattle.pddl_terms.specs.declared.limits.TheConstants.{MAX_SUPPORTERS};
+ghost use Rattle.supporter_count.specs.Counts.{supporter_count};
+ghost use Rattle.relax_command.specs.Faults.{IsTaskFault};
+ghost use Rattle.relax_command.specs.Relaxations.{IsTaskAnswer, box_answer};
 
 use box_model::StateBox;
-use ground_task::{RawTask, Task, TaskFault};
-use num_ends::{Dec, List, NoMemory, Text};
-use pair_text::{PairFault, Refusal, read_pair};
-use pddl_types::Checked;
-use plain_form::plain_task;
+use cert_text::write_box;
+use ground_task::Task;
+use num_ends::{List, NoMemory};
+use pair_text::{PairFault, Refusal};
+use pddl_terms::{MAX_SUPPORTERS, What};
 use relax_plain::least_box;
+use run_answers::Answer;
 use std::alloc::Global;
+use supporter_count::supporters;
 
-/// The task of a pair, and its least closed box above the initial state.
-#[derive(Drop)]
-pub(crate) struct Relaxation {
-    pub(crate) task: Task,
-    pub(crate) part: StateBox,
+/// Refuses a task with too many supporters.
+fn check_supporters(alloc: Global, task: &Task) -> Result<(), PairFault>
+    ensures few { IfOk result (λ _. supporter_count task.now ≤ MAX_SUPPORTERS) }
+    ensures fault { IfErr result (IsTaskFault task.now) }
+{
+    let count = supporters(alloc, task)?;
+    if count > MAX_SUPPORTERS {
+        return Err(PairFault::Refused(Refusal::Limit(What::Supporters)));
+    }
+    Ok(())
 }
 
-/// No decimal places for each of these fluents.
-fn no_places(alloc: Global, fluents: &[Text]) -> Result<List<u8>, NoMemory>
-    ensures { IfOk result (λ places. places ≡ map (λ _. 0) fluents.now) }
+/// The least closed box above the initial state of a task.
+fn first_box(alloc: Global, task: &Task) -> Result<StateBox, NoMemory>
+    ensures { IfOk result (IsLeastClosed task.now (first_state task.now.raw task.now.places)) }
 {
-    let mut places = List::new(alloc);
-    'each: for _fluent in fluents {
-        places.push(0)?;
-    }
-    Ok(places)
+    least_box(alloc, task, task.first())
 }
 
-// Lets a task's data go.
-fn discard_data(_raw: RawTask) {}
-
-// Lets a task go.
-fn discard_task(_task: Task) {}
-
-// Lets a checked pair go.
-fn discard_pair(_checked: Checked) {}
-
-/// Says that numbers are in range, as those of each decimal are.
-fn check_range(values: &[Dec])
-    ensures { (x : ℕ) → x < length values.now → InRange (slice_index_or values.now x origin).n }
+/// Whether the goal is met or missed in a box, and the line of the box.
+fn box_answer(alloc: Global, task: &Task, part: &StateBox) -> Result<Answer, NoMemory>
+    requires { IsBoxOf task.now part.now }
+    ensures { IfOk result (λ answer. answer ≡ box_answer task.now part.now) }
 {
-    'each: for value in values {
-        let _number = value.n;
-    }
+    let mut text = List::new(alloc);
+    let status = if part.misses_goal(task) {
+        text.extend_from_slice(b"MISSED\n")?;
+        1
+    } else {
+        text.extend_from_slice(b"MET\n")?;
+        0
+    };
+    write_box(alloc, task, part, &mut text)?;
+    Ok(Answer { status, text })
 }
 
-/// The task of plain data without places.
-fn placed(alloc: Global, raw: RawTask, places: List<u8>) -> Result<Task, NoMemory>
-    requires valid { IsValid raw }
-    requires plain { IsPlain raw (map (λ _. 0) raw.fluents) }
-    requires no_places { places ≡ map (λ _. 0) raw.fluents }
-    ensures { IfOk result (λ task. task ≡ record { raw = raw; places = map (λ _. 0) raw.fluents }) }
+/// What is answered of a task: whether its goal is met or missed in its least closed box, and the line of that box; it is
+/// refused where it has too many supporters.
+pub(crate) fn task_answer(alloc: Global, task: &Task) -> Result<Answer, PairFault>
+    ensures answer { IfOk result (IsTaskAnswer task.now) }
+    ensures fault { IfErr result (IsTaskFault task.now) }
 {
-    check_range(raw.values.as_slice());
-    match Task::with_places(alloc, raw, places) {
-        Ok(task) => Ok(task),
-        Err(TaskFault::NoMemory) => Err(NoMemory),
-        Err(TaskFault::Range(_)) => unreachable!(),
-    }
-}
-
-/// The task of plain data.
-fn with_no_places(alloc: Global, raw: RawTask) -> Result<Task, NoMemory>
-    requires valid { IsValid raw }
-    requires plain { IsPlain raw (map (λ _. 0) raw.fluents) }
-    ensures { IfOk result (λ task. task ≡ record { raw = raw; places = map (λ _. 0) raw.fluents }) }
-{
-    match no_places(alloc, raw.fluents.as_slice()) {
-        Ok(places) => placed(alloc, raw, places),
-        Err(NoMemory) => {
-            discard_data(raw);
-            Err(NoMemory)
-        }
-    }
-}
-
-/// The task of a checked pair; one that isn't plain is refused.
-fn task_of(alloc: Global, checked: &Checked) -> Result<Task, PairFault>
-    ensures task { IfOk result (λ task. IsTaskOf task checked.now) }
-    ensures fault { IfErr result (IsPairFault checked.now) }
-{
-    match plain_task(alloc, checked)? {
-        Some(raw) => Ok(with_no_places(alloc, raw)?),
-        None => Err(PairFault::Refused(Refusal::Unbuilt)),
-    }
-}
-
-/// The relaxation of a task.
-fn relaxed(alloc: Global, task: Task) -> Result<Relaxation, NoMemory>
-    ensures same_task { IfOk result (λ relaxation. relaxation.task ≡ task) }
-    ensures relaxed { IfOk result (λ relaxation. IsRelaxed task relaxation.part) }
-{
-    // says that the places suffice
-    let _raw = task.raw();
-    match least_box(alloc, &task, task.first()) {
-        Ok(part) => Ok(Relaxation { task, part }),
-        Err(NoMemory) => {
-            discard_task(task);
-            Err(NoMemory)
-        }
-    }
-}
-
-/// The relaxation of a checked pair, or why there is none.
-fn of_pair(alloc: Global, checked: &Checked) -> Result<Relaxation, PairFault>
-    ensures task { IfOk result (λ relaxation. IsTaskOf relaxation.task checked.now) }
-    ensures relaxed { IfOk result (λ relaxation. IsRelaxed relaxation.task relaxation.part) }
-    ensures fault { IfErr result (IsPairFault checked.now) }
-{
-    match task_of(alloc, checked) {
-        Ok(task) => Ok(relaxed(alloc, task)?),
-        Err(fault) => Err(fault),
-    }
-}
-
-/// The relaxation of what the texts of a domain and a problem spell, or why there is none.
-pub(crate) fn relaxation_of(
-    alloc: Global,
-    domain: &[u8],
-    problem: &[u8],
-) -> Result<Relaxation, PairFault>
-    requires domain_size { length domain.now ≤ 2 ^ 30 }
-    requires problem_size { length problem.now ≤ 2 ^ 30 }
-    ensures accepted { IfOk result (λ relaxation. Accepts (IsTaskOf relaxation.task) domain.now problem.now) }
-    ensures relaxed { IfOk result (λ relaxation. IsRelaxed relaxation.task relaxation.part) }
-    ensures fault { IfErr result (IsFault domain.now problem.now) }
-{
-    match read_pair(alloc, domain, problem) {
-        Ok(checked) => {
-            let found = of_pair(alloc, &checked);
-            discard_pair(checked);
-            found
-        }
-        Err(fault) => Err(fault),
-    }
+    check_supporters(alloc, task)?;
+    let part = first_box(alloc, task)?;
+    Ok(box_answer(alloc, task, &part)?)
 }

@@ -1,10 +1,9 @@
-use Rattle.relax_command.proofs.Answered.{of_box, of_refusal}
+use Rattle.relax_command.specs.Answers.IsAnswer.{relaxed}
+use Rattle.relax_command.proofs.Answered.{of_refusal}
 use Rattle.relax_command.proofs.answers.answer.Goals as goal
 
 pub returns-in-Ok : goal.returns-in-Ok
-returns-in-Ok c =
-    of_box c.args.domain.now c.args.problem.now c.in-Ok.found.task c.in-Ok.found.part c.box_answer-answer.result
-    c.in-Ok.ensures.accepted c.in-Ok.ensures.relaxed c.box_answer-answer.ensures
+returns-in-Ok c = relaxed c.in-Ok.answer c.in-Ok.ensures.relaxed
 
 pub returns-in-Err-Refused : goal.returns-in-Err-Refused
 returns-in-Err-Refused c =
