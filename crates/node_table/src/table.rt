@@ -7,6 +7,7 @@ ghost use Rattle.node_table.specs.Tables.{AreApart};
 
 use ground_task::State;
 use indexmap::IndexMap;
+use indexmap::map::IntoIter;
 use num_ends::NoMemory;
 use std::alloc::Global;
 use std::marker::Model;
@@ -101,5 +102,20 @@ impl<P: Copy + Drop> NodeTable<P> {
         ensures { self.new ≡ take len self.old }
     {
         self.table.truncate(len as usize);
+    }
+}
+
+impl<P: Copy + Drop> IntoIterator for NodeTable<P> {
+    type Item = (State, P);
+
+    type IntoIter = IntoIter<State, P, Global>;
+
+    ghost use Rattle.std.specs.Prelude.{◌≡◌};
+
+    ghost into_iter_gives = { λ nodes rest. rest ≡ nodes };
+
+    /// The nodes in their order, by value. This takes no memory.
+    fn into_iter(self) -> IntoIter<State, P, Global> {
+        self.table.into_iter()
     }
 }
