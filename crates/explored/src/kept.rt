@@ -7,6 +7,8 @@ ghost use Rattle.explored.specs.Kept.{noted, marked};
 
 use box_model::StateBox;
 use ground_task::{State, Task};
+use kept_boxes::KeptBoxes;
+use num_ends::List;
 use search_runs::{Full, Site};
 use std::alloc::Global;
 use std::marker::Model;
@@ -14,20 +16,17 @@ use std::marker::Model;
 /// What a search has found out beside its nodes.
 #[derive(Drop)]
 pub struct Explored {
-    pub(crate) boxes: Vec<StateBox>,
+    pub(crate) boxes: KeptBoxes,
     pub(crate) over: Option<(u32, Site)>,
     pub(crate) full: Option<Full>,
 }
 
 impl Model for Explored {
-    ghost use Rattle.std.specs.Prelude.{length, ◌≤◌};
     ghost use Rattle.explored.specs.Kept.{Kept};
 
     ghost Value = { Kept };
 
-    ghost view = { λ e. record { boxes = e.boxes.items; over = e.over; full = e.full } };
-
-    ghost invariant = { λ e. length e.boxes.items ≤ 1000000000 };
+    ghost view = { λ e. record { boxes = e.boxes; over = e.over; full = e.full } };
 }
 
 /// A point in the past of a search, to go back to.
@@ -44,7 +43,7 @@ impl Explored {
         ensures { result ≡ record { boxes = []; over = None; full = None } }
     {
         Explored {
-            boxes: Vec::new(alloc),
+            boxes: KeptBoxes::new(alloc),
             over: None,
             full: None,
         }
@@ -55,7 +54,7 @@ impl Explored {
         ensures number { result ≡ length self.now.boxes }
         ensures few { length self.now.boxes ≤ 1000000000 }
     {
-        self.boxes.len() as u32
+        self.boxes.len()
     }
 
     /// The first site at which a number left its range, with its node.
@@ -80,12 +79,7 @@ impl Explored {
         ensures found { IfSome result (λ b. IsFirstIn (Contains task.now.places) self.now.boxes state.now b) }
         ensures absent { IfNone result (IsInNone (Contains task.now.places) self.now.boxes state.now) }
     {
-        'each: for index in 0..self.boxes.len() {
-            if self.boxes[index].contains(task, state) {
-                return Some(index as u32);
-            }
-        }
-        None
+        self.boxes.first(task, state)
     }
 
     /// Notes a site of a node, where none is noted yet.
@@ -113,7 +107,7 @@ impl Explored {
         ensures full { result.full ≡ self.now.full }
     {
         Point {
-            boxes: self.boxes.len() as u32,
+            boxes: self.boxes.len(),
             over: self.over,
             full: self.full,
         }
@@ -123,8 +117,14 @@ impl Explored {
     pub fn go_back(&mut self, point: Point)
         ensures { self.new ≡ record { boxes = take point.boxes self.old.boxes; over = point.over; full = point.full } }
     {
-        self.boxes.truncate(point.boxes as usize);
+        self.boxes.cut(point.boxes);
         self.over = point.over;
         self.full = point.full;
+    }
+    /// The kept boxes, by value. This takes no memory.
+    pub fn into_boxes(self) -> List<StateBox>
+        ensures { result ≡ self.boxes }
+    {
+        List::from_vec(self.boxes.into_vec())
     }
 }
