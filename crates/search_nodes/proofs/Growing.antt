@@ -1,5 +1,5 @@
 -- A state enters by its class, and what was there stays in front.
-use Rattle.std.proofs.Common.{◌≡◌, ◌≢◌, ℕ, ◌<◌, ◌≤◌, ◌⊎◌, zero, suc, List, [], ◌∷◌, ◌++◌, map, length, take, Option, None, Some, All, refl, sym, ap, subst, ◌∙◌, inl, inr, arith, length-append}
+use Rattle.std.proofs.Common.{◌≡◌, ◌≢◌, ℕ, ◌<◌, ◌≤◌, ◌⊎◌, zero, suc, List, [], ◌∷◌, ◌++◌, map, length, take, Option, None, Some, IfSome, IfNone, All, refl, sym, ap, subst, ◌∙◌, inl, inr, arith, length-append}
 use Rattle.std.proofs.lemmas.List.{append_assoc, append-nil}
 use Rattle.std.proofs.Math.Seq.{take-append_seam}
 use Rattle.std.proofs.lemmas.List.Elements.{All-append, All-cons, All-nil}
@@ -21,9 +21,10 @@ use Rattle.search_runs.specs.Spaces.{IsAt}
 use Rattle.search_runs.specs.declared.nodes.Status.{Status}
 use Rattle.search_nodes.specs.declared.nodes.Rest.{Rest}
 use Rattle.search_nodes.specs.declared.views.Outcome.{Outcome}
-use Rattle.search_nodes.specs.declared.views.Outcome.TheVariants.{Blocked, Over, Next}
+use Rattle.search_nodes.specs.declared.views.Outcome.TheVariants.{Blocked, Over, Known, InKept, Next}
 use Rattle.search_nodes.specs.declared.views.View.{View}
 use Rattle.search_nodes.specs.declared.views.View.TheVariants as view
+use Rattle.search_nodes.proofs.Kept.{node_at}
 use Rattle.search_runs.proofs.Places.{at_changed, at_same, length-with_status}
 use Rattle.search_runs.specs.declared.answers.Full.{Full}
 use Rattle.search_runs.specs.declared.answers.Site.{Site}
@@ -153,6 +154,11 @@ entered_extends places most s parent via (view.LiveOver h) c c' is = extends_add
 pub met_extends : (places : List ℕ) (most : Most) (n a : ℕ) (o : Outcome) (c c' : Configs) → IsMet places most n a o c c' → Extends c c'
 met_extends places most n a Blocked c c' is = extends_same c c' (ap (λ k. k.nodes) is) (ap (λ k. k.boxes) is)
 met_extends places most n a Over c c' is = extends_same c c' (ap (λ k. k.nodes) is) (ap (λ k. k.boxes) is)
+met_extends places most n a (Known m) c c' is = extends_same c c' (ap (λ k. k.nodes) is) (ap (λ k. k.boxes) is)
+met_extends places most n a (InKept s) c c' (inl (known, is)) = extends_same c c' (ap (λ k. k.nodes) is) (ap (λ k. k.boxes) is)
+met_extends places most n a (InKept s) c c' (inr (new, inl (full, is))) = extends_same c c' (ap (λ k. k.nodes) is) (ap (λ k. k.boxes) is)
+met_extends places most n a (InKept s) c c' (inr (new, inr (room, inl (b, first, is)))) = extends_added c c' _ (ap (λ k. k.nodes) is) (ap (λ k. k.boxes) is)
+met_extends places most n a (InKept s) c c' (inr (new, inr (room, inr (none, is)))) = extends_same c c' (ap (λ k. k.nodes) is) (ap (λ k. k.boxes) is)
 met_extends places most n a (Next s v) c c' (inl (known, is)) = extends_same c c' (ap (λ k. k.nodes) is) (ap (λ k. k.boxes) is)
 met_extends places most n a (Next s v) c c' (inr (new, inl (full, is))) = extends_same c c' (ap (λ k. k.nodes) is) (ap (λ k. k.boxes) is)
 met_extends places most n a (Next s v) c c' (inr (new, inr (room, is))) = entered_extends places most s n a v c c' is
@@ -195,6 +201,16 @@ not_node (y ∷ nodes) s new (suc n, x, at, is) = not_node nodes s (λ i d insid
 pub as_met : {t u : TaskValue} {most other : Most} {a b : ℕ} (n : ℕ) (o : Outcome) (c d : Configs) → IsMet t.places most n a o c d → t ≡ u → most ≡ other → a ≡ b → IsMet u.places other n b o c d
 as_met {t} {u} {most} {other} {a} {b} n o c d is p q r =
     subst (λ k. IsMet k.places other n b o c d) p (subst (λ k. IsMet t.places k n b o c d) q (subst (λ k. IsMet t.places most n k o c d) r is))
+
+-- what is found in the table is found among the nodes
+pub known_node : (es : List (StateValue × Rest)) (s : StateValue) (o : Option ℕ) → IfSome o (λ n. (x : Rest) × IsAt es n (s, x))
+    → IfSome o (λ n. (x : Node StateValue) × IsAt (map node_of es) n x × (x.state ≡ s))
+known_node es s None is = is
+known_node es s (Some n) (x, at) = (node_of (s, x), node_at es n (s, x) at, refl)
+
+pub none_known : (es : List (StateValue × Rest)) (s : StateValue) (o : Option ℕ) → IfNone o (All (λ node. node.0 ≢ s) es) → IfNone o (IsNew (map node_of es) s)
+none_known es s None is = new_nodes es s is
+none_known es s (Some n) is = is
 
 -- a status that is set back
 pub set_back : (nodes : Nodes) (n : ℕ) (x : Node StateValue) (st : Status) → IsAt nodes n x → with_status (with_status nodes n st) n x.status ≡ nodes

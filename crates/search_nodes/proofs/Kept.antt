@@ -236,6 +236,12 @@ new_key [] s new k d within same = omega arith
 new_key (e ∷ es) s new zero d within same = new zero (node_of e) (omega arith) same
 new_key (e ∷ es) s new (suc k) d within same = new_key es s (λ i x inside. new (suc i) x (omega arith)) k d (omega arith) same
 
+-- other data of a node
+pub length-set : (es : List (StateValue × Rest)) (n : ℕ) (r : Rest) → length (set_value_at es n r) ≡ length es
+length-set [] n r = refl
+length-set (e ∷ es) zero r = refl
+length-set (e ∷ es) (suc n) r = ap suc (length-set es n r)
+
 -- the node of a pair
 pub node_at : (es : List (StateValue × Rest)) (n : ℕ) (e : StateValue × Rest) → IsAt es n e → IsAt (map node_of es) n (node_of e)
 node_at [] n e at = cc

@@ -18,7 +18,7 @@ use Rattle.search_runs.specs.declared.nodes.Status.{Status}
 use Rattle.search_runs.specs.declared.nodes.Status.TheVariants.{Waiting, Goal, Dead}
 use Rattle.search_nodes.specs.Tables.{Table}
 use Rattle.search_nodes.specs.declared.views.Outcome.{Outcome}
-use Rattle.search_nodes.specs.declared.views.Outcome.TheVariants.{Blocked, Over, Next}
+use Rattle.search_nodes.specs.declared.views.Outcome.TheVariants.{Blocked, Over, Known, InKept, Next}
 use Rattle.search_nodes.specs.declared.views.View.{View}
 use Rattle.search_nodes.specs.declared.views.View.TheVariants as view
 
@@ -46,10 +46,22 @@ IsEntered places most s parent via found c c' =
     ((length c.nodes ≡ most.states) × (c' ≡ marked States c))
     ⊎ ((length c.nodes < most.states) × IsEnteredBy places most s parent via found c c')
 
+-- a state that lies in a kept box becomes a node, by the first that contains it, or there is no room; where none
+-- contains it nothing happens
+abbrev pub IsKeptEntered : List ℕ → Most → StateValue → ℕ → ℕ → Configs → Configs → Type 0
+IsKeptEntered places most s parent via c c' =
+    ((length c.nodes ≡ most.states) × (c' ≡ marked States c))
+    ⊎ ((length c.nodes < most.states)
+    × (((b : ℕ) × IsFirstIn (Contains places) c.boxes s b × (c' ≡ added s parent via (Dead b) c))
+    ⊎ (IsInNone (Contains places) c.boxes s × (c' ≡ c))))
+
 -- action a of node n does this
 abbrev pub IsMet : List ℕ → Most → ℕ → ℕ → Outcome → Configs → Configs → Type 0
 IsMet places most n a Blocked c c' = c' ≡ c
 IsMet places most n a Over c c' = c' ≡ noted n (site.Action a) c
+IsMet places most n a (Known m) c c' = c' ≡ c
+IsMet places most n a (InKept s) c c' =
+    (IsNode c.nodes s × (c' ≡ c)) ⊎ ((IsNode c.nodes s → ⊥) × IsKeptEntered places most s n a c c')
 IsMet places most n a (Next s found) c c' =
     (IsNode c.nodes s × (c' ≡ c)) ⊎ ((IsNode c.nodes s → ⊥) × IsEntered places most s n a found c c')
 
@@ -71,6 +83,8 @@ FitsState t s = (length s.facts ≡ length t.raw.facts) × (length s.values ≡ 
 abbrev pub FitsOutcome : TaskValue → Outcome → Type 0
 FitsOutcome t Blocked = ⊤
 FitsOutcome t Over = ⊤
+FitsOutcome t (Known m) = ⊤
+FitsOutcome t (InKept s) = FitsState t s
 FitsOutcome t (Next s found) = FitsState t s × FitsView t found
 
 -- the parts of a view

@@ -3,8 +3,8 @@
 ghost use Rattle.std.specs.Prelude.{◌≡◌, ◌<◌, ◌≤◌, [], ◌∷◌, All, length, take, OnOk, OnErr};
 ghost use Rattle.search_runs.specs.Nodes.{changed};
 ghost use Rattle.search_runs.specs.declared.nodes.Status.TheVariants.{Closed, Taken};
-ghost use Rattle.search_nodes.specs.declared.views.Outcome.TheVariants.{Next};
-ghost use Rattle.search_nodes.specs.Growth.{AreMet, Extends, FitsOutcome, FitsState, FitsView, IsEntered, IsMet, SameTerms, estimate_in, seen_in, status_in};
+ghost use Rattle.search_nodes.specs.declared.views.Outcome.TheVariants.{InKept, Next};
+ghost use Rattle.search_nodes.specs.Growth.{AreMet, Extends, FitsOutcome, FitsState, FitsView, IsEntered, IsKeptEntered, IsMet, SameTerms, estimate_in, seen_in, status_in};
 ghost use Rattle.search_nodes.specs.Tables.{IsNew, IsTakenBy, config_of};
 
 use crate::nodes::{Rest, SearchNodes};
@@ -12,7 +12,7 @@ use crate::views::{Outcome, View};
 use explored::{Class, Point, Seen};
 use ground_task::State;
 use num_ends::{List, NoMemory};
-use search_runs::{Site, Status};
+use search_runs::{Full, Site, Status};
 
 fn seen_of(view: View) -> (Seen, u32)
     ensures seen { result.0 ≡ seen_in view }
@@ -90,6 +90,8 @@ impl SearchNodes {
                 self.explored.note(node, Site::Action(action));
                 Ok(())
             }
+            Outcome::Known(_) => Ok(()),
+            Outcome::InKept(state) => self.meet_kept(node, action, state),
             Outcome::Next(state, view) => self.meet_state(node, action, state, view),
         }
     }
@@ -113,6 +115,53 @@ impl SearchNodes {
                 Ok(())
             }
             None => self.enter(state, node, action, view),
+        }
+    }
+
+    fn meet_kept(&mut self, node: u32, action: u32, state: State) -> Result<(), NoMemory>
+        requires of_task { FitsState self.old.task state }
+        ensures terms { SameTerms self.old self.new }
+        ensures ok { OnOk result (IsMet self.old.task.places self.old.most node action (InKept state) (config_of self.old) (config_of self.new)) }
+        ensures err { OnErr result (self.new ≡ self.old) }
+    {
+        match self.table.find(&state) {
+            Some(_) => {
+                drop(state);
+                Ok(())
+            }
+            None => self.enter_kept(state, node, action),
+        }
+    }
+
+    // a state that is no node's becomes one, by the first kept box that contains it
+    fn enter_kept(&mut self, state: State, parent: u32, via: u32) -> Result<(), NoMemory>
+        requires new { IsNew self.old.nodes state }
+        requires of_task { FitsState self.old.task state }
+        ensures terms { SameTerms self.old self.new }
+        ensures ok { OnOk result (IsKeptEntered self.old.task.places self.old.most state parent via (config_of self.old) (config_of self.new)) }
+        ensures err { OnErr result (self.new ≡ self.old) }
+    {
+        if self.table.len() == self.most.states {
+            self.explored.mark(Full::States);
+            drop(state);
+            return Ok(());
+        }
+        match self.explored.first(&self.task, &state) {
+            None => {
+                drop(state);
+                Ok(())
+            }
+            Some(first) => {
+                let status = Status::Dead(first);
+                self.push(
+                    state,
+                    Rest {
+                        parent,
+                        via,
+                        status,
+                    },
+                )
+            }
         }
     }
 

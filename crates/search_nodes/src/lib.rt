@@ -2,10 +2,13 @@
 #![tactic(auto)]
 
 mod changes;
+mod finish;
 mod growth;
 mod nodes;
 mod parts;
+mod store;
 mod views;
 
+pub use finish::Finished;
 pub use nodes::{Rest, SearchNodes};
 pub use views::{Outcome, View};

@@ -5,11 +5,15 @@ ghost use Rattle.search_runs.specs.Answers.{count, first_where, is_goal, is_take
 ghost use Rattle.search_runs.specs.Nodes.{nothing, with_status};
 ghost use Rattle.search_runs.specs.declared.nodes.Node.{Node};
 ghost use Rattle.ground_task.specs.States.{StateValue};
+ghost use Rattle.box_model.specs.Boxes.{Contains};
+ghost use Rattle.search_runs.specs.KeptBoxes.{IsFirstIn, IsInNone};
+ghost use Rattle.search_runs.specs.Spaces.{IsAt};
+ghost use Rattle.search_nodes.specs.Growth.{FitsState};
 ghost use Rattle.search_nodes.specs.Tables.{IsNew, WithNodes};
 
+use crate::store::NodeStore;
 use explored::{Explored, Most};
 use ground_task::{State, Task};
-use node_table::NodeTable;
 use num_ends::NoMemory;
 use open_list::OpenList;
 use search_runs::{Full, Site, Status};
@@ -29,7 +33,7 @@ pub struct Rest {
 pub struct SearchNodes {
     pub(crate) task: Task,
     pub(crate) most: Most,
-    pub(crate) table: NodeTable<Rest>,
+    pub(crate) table: NodeStore,
     pub(crate) frontier: OpenList,
     pub(crate) explored: Explored,
     pub(crate) goal: Option<u32>,
@@ -62,7 +66,7 @@ impl SearchNodes {
         SearchNodes {
             task,
             most,
-            table: NodeTable::new(alloc),
+            table: NodeStore::new(alloc),
             frontier: OpenList::new(alloc),
             explored: Explored::new(alloc),
             goal: None,
@@ -118,5 +122,21 @@ impl SearchNodes {
         ensures { (x : Node StateValue) × (slice_get self.now.nodes node ≡ Some x) × (x.state ≡ result.now) }
     {
         self.table.state(node)
+    }
+    /// The node that has this state.
+    pub fn knows(&self, state: &State) -> Option<u32>
+        ensures found { IfSome result (λ n. (x : Node StateValue) × IsAt self.now.nodes n x × (x.state ≡ state.now)) }
+        ensures absent { IfNone result (IsNew self.now.nodes state.now) }
+    {
+        self.table.find(state)
+    }
+
+    /// The number of the first kept box that contains the state.
+    pub fn kept(&self, state: &State) -> Option<u32>
+        requires of_task { FitsState self.now.task state.now }
+        ensures found { IfSome result (λ b. IsFirstIn (Contains self.now.task.places) self.now.boxes state.now b) }
+        ensures absent { IfNone result (IsInNone (Contains self.now.task.places) self.now.boxes state.now) }
+    {
+        self.explored.first(&self.task, state)
     }
 }

@@ -9,7 +9,7 @@ ghost use Rattle.search_nodes.specs.Parts.{CanJoin, joined_frontier, left_fronti
 ghost use Rattle.search_nodes.specs.Tables.{node_of};
 
 use crate::nodes::Rest;
-use node_table::NodeTable;
+use crate::store::NodeStore;
 use num_ends::NoMemory;
 use open_list::OpenList;
 use search_runs::Status;
@@ -82,7 +82,7 @@ pub(crate) fn leave_taken(taken: u32, status: Status) -> u32
 }
 
 /// Gives a node another status.
-pub(crate) fn set_status(table: &mut NodeTable<Rest>, node: u32, status: Status)
+pub(crate) fn set_status(table: &mut NodeStore, node: u32, status: Status)
     requires known { node < length table.old }
     ensures { map node_of table.new ≡ with_status (map node_of table.old) node status }
 {

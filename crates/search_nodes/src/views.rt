@@ -25,6 +25,10 @@ pub enum Outcome {
     Blocked,
     /// A number leaves its range.
     Over,
+    /// It leads to the state of the node of this number.
+    Known(u32),
+    /// It leads to this state, which lies in a kept box.
+    InKept(State),
     /// It leads to this state, of which this is found out.
     Next(State, View),
 }
