@@ -1,7 +1,7 @@
 -- The answer by its cases, and who may still starve.
-use Rattle.std.proofs.Common.{◌≡◌, ◌≢◌, ℕ, ◌<◌, ◌≤◌, ◌+◌, ◌⊎◌, ◌==◌, ◌||◌, zero, suc, Bool, true, false, cond, List, [], ◌∷◌, ◌++◌, Option, None, Some, refl, sym, ap, subst, ◌∙◌, inl, inr, arith, if◌then◌else◌, nat_lt}
+use Rattle.std.proofs.Common.{◌≡◌, ℕ, ◌<◌, ◌≤◌, ◌+◌, ◌==◌, ◌||◌, zero, suc, Bool, true, false, cond, List, [], ◌∷◌, ◌++◌, Option, None, Some, refl, ap, subst, ◌∙◌, inl, inr, arith, if◌then◌else◌, nat_lt}
 use Rattle.std.proofs.lemmas.Bool.{cases_order, eq-eqb, eqb-true, false_from_ne_true, lt-ltb, ltb-true}
-use Rattle.std.specs.Prelude.{IsSome, is_some}
+use Rattle.std.specs.Prelude.{is_some}
 use Rattle.std.specs.Option.{option_map}
 use Rattle.search_runs.specs.Answers.{answer_of, count, first_where, is_goal, is_taken, is_waiting, when_idle}
 use Rattle.search_runs.specs.Nodes.{Config}
@@ -56,6 +56,12 @@ module _ {S B : Type 0} (limit : ℕ) (j : List Event) (c : Config S B) where
 
   pub answer_idle : first_where is_goal c.nodes ≡ None → has_starve j ≡ false → count is_taken c.nodes ≡ 0 → answer_of limit j c ≡ when_idle limit j c
   answer_idle e s none = ap after_goal e ∙ ap after_starve s ∙ ap after_taken (first_none is_taken c.nodes none)
+
+  pub answer_taken_at : (n : ℕ) → first_where is_goal c.nodes ≡ None → has_starve j ≡ false → first_where is_taken c.nodes ≡ Some n → answer_of limit j c ≡ None
+  answer_taken_at n e s taken = ap after_goal e ∙ ap after_starve s ∙ ap after_taken taken
+
+  pub answer_idle_at : first_where is_goal c.nodes ≡ None → has_starve j ≡ false → first_where is_taken c.nodes ≡ None → answer_of limit j c ≡ when_idle limit j c
+  answer_idle_at e s none = ap after_goal e ∙ ap after_starve s ∙ ap after_taken none
 
   abbrev after_site : Option (ℕ × Site) → Option Answer
   after_site o = elim o as (λ _. Option Answer) [ Some p ↦ Some (answer.Over p.0 p.1) | None ↦ Some Exhausted ]
@@ -143,6 +149,7 @@ unstarved_less (suc v) j w below once =
         let none : ◌≡◌ {A = ℕ} (cond (has_starved v (j ++ Starve w ∷ [])) 0 1) 0 = ap (λ b. cond {A = ℕ} b 0 1) starved in
         let one : ◌≡◌ {A = ℕ} (cond (has_starved v j) 0 1) 1 = ap (λ b. cond {A = ℕ} b 0 1) before in
         omega (arith, none, one, unstarved_past v j w (omega (arith, same)))
+
     later : w < v → count_unstarved v (j ++ Starve w ∷ []) + 1 ≡ count_unstarved v j → count_unstarved (suc v) (j ++ Starve w ∷ []) + 1 ≡ count_unstarved (suc v) j
     later less rest =
         let other : (w == v) ≡ false = false_from_ne_true (w == v) (λ e. let same : w ≡ v = eqb-true w v e in absurd (omega (arith, less, same))) in

@@ -1,14 +1,14 @@
 -- What is counted, as events come.
-use Rattle.std.proofs.Common.{◌≡◌, ℕ, ◌<◌, ◌≤◌, ◌+◌, suc, Bool, true, false, List, [], ◌∷◌, ◌++◌, refl, sym, ap, subst, ◌∙◌, arith}
+use Rattle.std.proofs.Common.{◌≡◌, ℕ, ◌<◌, ◌≤◌, ◌+◌, Bool, true, false, List, [], ◌∷◌, ◌++◌, refl, sym, subst, ◌∙◌, arith}
 use Rattle.search_runs.proofs.Marks.{takes-Take, takes-Give, takes-Starve}
 use Rattle.search_runs.proofs.Stays.{starved-Starve}
-use Rattle.search_runs.specs.Runs.{count_takes, has_starve, has_starved}
+use Rattle.search_runs.specs.Runs.{has_starve, has_starved}
 use Rattle.search_runs.specs.declared.events.Event.{Event}
 use Rattle.search_runs.specs.declared.events.Event.TheVariants.{Start, Take, Give, Starve}
 use Rattle.search_turns.proofs.Answering.{unstarved_less, unstarved_within}
-use Rattle.search_turns.specs.Turns.{AreCounted, count_unstarved}
+use Rattle.search_turns.specs.Turns.{AreCounted}
 
-starve_Take : (j : List Event) (w n : ℕ) → has_starve (j ++ Take w n ∷ []) ≡ has_starve j
+pub starve_Take : (j : List Event) (w n : ℕ) → has_starve (j ++ Take w n ∷ []) ≡ has_starve j
 starve_Take [] w n = refl
 starve_Take (Start ∷ j) w n = starve_Take j w n
 starve_Take (Take v m ∷ j) w n = starve_Take j w n
@@ -68,12 +68,18 @@ starve_room j limit workers takes starved len capacity w is below once = omega (
 -- the same with more room
 pub counted_room : (j : List Event) (limit workers takes : ℕ) (starved : Bool) (len old new : ℕ) → AreCounted j limit workers takes starved len old → old ≤ new → AreCounted j limit workers takes starved len new
 counted_room j limit workers takes starved len old new is room = record {
-  takes_are = is.takes_are; few_takes = is.few_takes; starved_is = is.starved_is; few_workers = is.few_workers;
+  takes_are = is.takes_are;
+  few_takes = is.few_takes;
+  starved_is = is.starved_is;
+  few_workers = is.few_workers;
   room = omega (arith, is.room, room);
 }
 
 pub counted_start : (limit workers new : ℕ) → workers ≤ 1000000 → 0 + (workers + 1) ≤ new → AreCounted (Start ∷ []) limit workers 0 false 1 new
 counted_start limit workers new few room = record {
-  takes_are = refl; few_takes = omega arith; starved_is = refl; few_workers = few;
+  takes_are = refl;
+  few_takes = omega arith;
+  starved_is = refl;
+  few_workers = few;
   room = omega (arith, room, unstarved_within workers (Start ∷ []));
 }

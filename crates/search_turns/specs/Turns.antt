@@ -83,6 +83,12 @@ pub record IsGiven (w n : ℕ) (outcomes : List Outcome) (old new : Turns) : Typ
   pub met : AreMet old.table.task.places old.table.most n 0 outcomes (changed n Closed (config_of old.table)) (config_of new.table)
   pub journal : new.journal ≡ old.journal ++ Give w n ∷ []
 
+-- the initial state became node 0, by its view, and nothing else is there
+pub record HasFirst (task : TaskValue) (most : Most) (found : View) (table : Table) : Type 0 where
+  pub task_is : table.task ≡ task
+  pub most_is : table.most ≡ most
+  pub entered : IsEntered task.places most (first_state task.raw task.places) 0 0 found nothing (config_of table)
+
 -- the initial state became node 0, by its view, and nothing else happened
 pub record IsStarted (task : TaskValue) (limit workers : ℕ) (most : Most) (found : View) (new : Turns) : Type 0 where
   pub task_is : new.table.task ≡ task

@@ -33,7 +33,11 @@ impl SearchTurns {
             return Some(Answer::Filled(full));
         }
         if self.nodes.waits() {
-            return if self.takes < self.limit { None } else { Some(Answer::Expansions) };
+            return if self.takes < self.limit {
+                None
+            } else {
+                Some(Answer::Expansions)
+            };
         }
         match self.nodes.over() {
             Some((node, site)) => Some(Answer::Over(node, site)),

@@ -10,4 +10,4 @@ invariant_of-self-2 c =
     counted_as c.self.inside.limit c.self.inside.workers (vec_capacity c.record.new.journal)
     (c.record.ensures.items ∙ ap (λ k. k ++ Give c.args.worker c.args.node ∷ []) c.make_room.ensures.items) refl refl (c.record.ensures.len ∙ ap (λ k. k + 1) c.make_room.ensures.len)
     (counted_give c.self.inside.journal.items c.self.inside.limit c.self.inside.workers c.self.inside.takes c.self.inside.starved (vec_len c.self.inside.journal) (vec_capacity c.self.inside.journal)
-        (vec_capacity c.record.new.journal) c.args.worker c.args.node c.self.invariant room)
+    (vec_capacity c.record.new.journal) c.args.worker c.args.node c.self.invariant room)
