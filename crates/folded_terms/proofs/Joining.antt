@@ -5,7 +5,8 @@ use Rattle.std.specs.List.{list_any}
 use Rattle.std.proofs.lemmas.List.{append-nil}
 use Rattle.ground_task.specs.declared.raw.GCond.{GCond}
 use Rattle.ground_meaning.specs.Conditions.{Settled, is_decided, remaining_members}
-use Rattle.folded_terms.specs.internal.Joints.{Joint, finished, joint_of, joins, top_members, with_settled}
+use Rattle.term_patterns.specs.Bound.{joins}
+use Rattle.folded_terms.specs.internal.Joints.{Joint, finished, joint_of, top_members, with_settled}
 
 or_false : (b : Bool) → (b || false) ≡ b
 or_false true = refl

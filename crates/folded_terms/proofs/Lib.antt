@@ -1,6 +1,4 @@
-pub mod Layers
 pub mod Answered
-pub mod Bindings
 pub mod Joining
 pub mod Spelling
 pub mod ReadFluents

@@ -1,54 +1,24 @@
 -- What patterns of terms fold to, as contracts see them.
-use Rattle.std.proofs.Common.{◌≡◌, ◌<◌, ℕ, true, List, [], Option, Some, None, length, sym, ap, subst, ◌∙◌}
+use Rattle.std.proofs.Common.{◌≡◌, ℕ, true, List, [], Option, Some, None, sym, ap, subst, ◌∙◌}
 use Rattle.std.specs.Prelude.{codes, option_map}
 use Rattle.pddl_terms.specs.declared.names.Atom.{Atom}
 use Rattle.pddl_terms.specs.declared.names.Typed.{Typed}
-use Rattle.pddl_terms.specs.declared.expressions.Expr.{Expr}
 use Rattle.pddl_terms.specs.declared.conditions.Cond.{Cond}
 use Rattle.pddl_terms.specs.declared.files.Problem.{Problem}
 use Rattle.pddl_types.specs.declared.faults.Side.TheVariants as side
 use Rattle.pddl_types.specs.declared.pairs.Pair.{Pair}
 use Rattle.pddl_types.specs.Contents.{all_read, condition_parts}
-use Rattle.pddl_types.specs.Pairs.{objects_of}
-use Rattle.pddl_types.specs.WellFormed.{Each}
 use Rattle.static_facts.specs.Atoms.{atom_of, names, text_of_atom}
 use Rattle.ground_meaning.specs.declared.faults.GroundFault.TheVariants as fault
-use Rattle.ground_meaning.specs.Expressions.{folded}
 use Rattle.ground_meaning.specs.Expressions.FoldFault.{Divide, OutOfRange}
 use Rattle.ground_meaning.specs.Conditions.{folded_condition}
 use Rattle.ground_meaning.specs.Goals.{folded_goal, unset_in_goal}
-use Rattle.folded_terms.specs.declared.expressions.ExprSlots.{ExprSlots}
-use Rattle.folded_terms.specs.declared.slots.CondSlots.{CondSlots}
 use Rattle.folded_terms.specs.declared.faults.FoldError.{FoldError}
 use Rattle.folded_terms.specs.declared.faults.FoldError.TheVariants as error
 use Rattle.folded_terms.specs.Faults.{IsFoldFault}
-use Rattle.folded_terms.specs.Bound.{bound_condition, bound_expression}
 use Rattle.folded_terms.specs.Goals.{IsGoalFault}
 use Rattle.folded_terms.specs.Goals.IsGoalFault.{unset, unfolded, by_memory}
-use Rattle.folded_terms.specs.Patterns.{IsCondPattern, IsExprPattern}
 use Rattle.folded_terms.specs.internal.Unset.{first_unset}
-use Rattle.folded_terms.proofs.Bindings.{condition_folds, expression_folds}
-
-module _ (p statics : Pair) (params : List Typed) (os : List ℕ) where
-  module _ (x : Expr) (q : ExprSlots) (v : Pair × List Typed × Expr) where
-    pub expression_seen : IsExprPattern p statics params x q → (p, params, x) ≡ v → length os ≡ length v.1 → Each (λ o. o < length (objects_of v.0)) os
-        → bound_expression statics os q ≡ folded v.0 v.1 (names v.0 os) v.2
-    expression_seen h is same known =
-        subst (λ (w : Pair × List Typed × Expr). (length os ≡ length w.1) × Each (λ o. o < length (objects_of w.0)) os → bound_expression statics os q ≡ folded w.0 w.1 (names w.0 os) w.2) is
-        (λ b. ap (λ (r : Pair). bound_expression r os q) h.of_pair.one_pair ∙ ap (bound_expression p os) h.is
-        ∙ expression_folds p h.of_pair.readable h.of_pair.well_formed params os b.0 b.1 x)
-        (same, known)
-
-  module _ (d : Cond) (q : CondSlots) (v : Pair × List Typed × Cond) where
-    pub condition_seen : IsCondPattern p statics params d q → (p, params, d) ≡ v → length os ≡ length v.1 → Each (λ o. o < length (objects_of v.0)) os
-        → bound_condition statics os q ≡ folded_condition v.0 v.1 (names v.0 os) v.2 true
-    condition_seen h is same known =
-        subst (λ (w : Pair × List Typed × Cond). (length os ≡ length w.1) × Each (λ o. o < length (objects_of w.0)) os → bound_condition statics os q ≡ folded_condition w.0 w.1 (names w.0 os) w.2 true) is
-        (λ b. ap (λ (r : Pair). bound_condition r os q) h.of_pair.one_pair ∙ ap (bound_condition p os) h.is
-        ∙ condition_folds p h.of_pair.readable h.of_pair.well_formed params os b.0 b.1 d true)
-        (same, known)
-
--- ---- the goal
 
 pub goal_seen : (p : Pair) (q : Problem) (v : Pair × List Typed × Cond) → v ≡ (p, [], q.goal) → q ≡ p.problem → folded_condition v.0 v.1 (names v.0 []) v.2 true ≡ folded_goal p
 unfolding folded_goal

@@ -14,8 +14,9 @@ use Rattle.coded_actions.proofs.Inductions.{induct_condition}
 use Rattle.ground_meaning.specs.Results.{mapped}
 use Rattle.ground_meaning.specs.Expressions.{FoldFault}
 use Rattle.ground_meaning.specs.Conditions.{Settled, disjuncts_layer}
+use Rattle.term_patterns.specs.Bound.{joins}
 use Rattle.folded_terms.specs.declared.joints.CodedJoint.{CodedJoint}
-use Rattle.folded_terms.specs.internal.Joints.{Joint, finished, joint_meaning, joint_of, joins, top_members}
+use Rattle.folded_terms.specs.internal.Joints.{Joint, finished, joint_meaning, joint_of, top_members}
 use Rattle.folded_terms.proofs.Answered.{mapped_same}
 use Rattle.folded_terms.proofs.Joining.{joined_all}
 

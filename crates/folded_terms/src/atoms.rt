@@ -4,20 +4,14 @@ ghost use Rattle.std.specs.Prelude.{◌≡◌};
 ghost use Rattle.pddl_meaning.specs.Truth.{at_polarity};
 ghost use Rattle.bound_atoms.specs.Slots.{same_number};
 ghost use Rattle.ground_meaning.specs.Conditions.Settled.{decided};
-ghost use Rattle.folded_terms.specs.Bound.{bound_fact};
+ghost use Rattle.term_patterns.specs.Bound.{bound_fact};
 ghost use Rattle.folded_terms.specs.Settled.{settled_of};
 
 use crate::settled::CodedSettled;
 use bound_atoms::{AtomSlots, SameSlots};
 use coded_actions::CodedCond;
 use static_facts::Statics;
-
-/// A truth value, or at the polarity `false` its negation.
-pub(crate) fn at_polarity(polarity: bool, truth: bool) -> bool
-    ensures { result ≡ at_polarity polarity truth }
-{
-    if polarity { truth } else { !truth }
-}
+use term_patterns::at_polarity;
 
 /// What a fact folds to: one of a fixed predicate to its truth at first.
 #[tactic(auto, using(coded_actions::proofs::Equations::condition_Fact))]

@@ -8,15 +8,13 @@ ghost use Rattle.folded_terms.specs.internal.Relations.{relation_of};
 ghost use Rattle.ground_task.specs.declared.raw.GCond.TheVariants as c;
 ghost use Rattle.ground_task.specs.declared.raw.Rel.TheVariants as relation;
 ghost use Rattle.std.specs.Prelude.{[], ◌∷◌};
-ghost use Rattle.folded_terms.specs.Bound.{bound_comparison};
+ghost use Rattle.term_patterns.specs.Bound.{bound_comparison};
 ghost use Rattle.folded_terms.specs.Faults.{IsFoldFault};
 ghost use Rattle.folded_terms.specs.Operands.{operand_of};
 ghost use Rattle.folded_terms.specs.Settled.{settled_of};
 
-use crate::arithmetic::stands;
-use crate::atoms::at_polarity;
 use crate::copies::copied;
-use crate::expressions::{ExprSlots, folded};
+use crate::expressions::folded;
 use crate::faults::FoldError;
 use crate::operands::CodedOperand;
 use crate::settled::CodedSettled;
@@ -27,6 +25,8 @@ use pddl_terms::Rel;
 use sqlite_items::Items;
 use static_facts::Statics;
 use std::alloc::Global;
+use term_patterns::arithmetic::stands;
+use term_patterns::{ExprSlots, at_polarity};
 
 #[tactic(auto, using(coded_actions::proofs::Equations::condition_Or, coded_actions::proofs::Equations::condition_Cmp))]
 fn differing(alloc: Global, left: CodedExpr, right: CodedExpr) -> Result<CodedCond, NoMemory>

@@ -2,23 +2,22 @@
 
 ghost use Rattle.std.specs.Prelude.{◌≡◌, MatchResult, Ok, map};
 ghost use Rattle.ground_meaning.specs.Results.{all_answers, mapped};
-ghost use Rattle.folded_terms.specs.Bound.{bound_condition};
+ghost use Rattle.term_patterns.specs.Bound.{bound_condition, joins};
 ghost use Rattle.folded_terms.specs.Faults.{IsFoldFault};
 ghost use Rattle.folded_terms.specs.Settled.{settled_of};
-ghost use Rattle.folded_terms.specs.internal.Joints.{joins};
 
 use crate::atoms::{folded_fact, folded_same};
 use crate::comparisons::folded_comparison;
 use crate::faults::FoldError;
 use crate::joints::no_members;
 use crate::settled::CodedSettled;
-use crate::slots::CondSlots;
 use static_facts::Statics;
 use std::alloc::Global;
+use term_patterns::CondSlots;
 
 /// What a condition folds to under a binding: all members are folded, from left to right, before any is left out.
 #[cycle(conditions)]
-#[tactic(auto, using(crate::proofs::Layers::bound_All, crate::proofs::Layers::bound_Any, crate::proofs::Layers::bound_Fact, crate::proofs::Layers::bound_Same, crate::proofs::Layers::bound_Compared))]
+#[tactic(auto, using(term_patterns::proofs::Layers::bound_All, term_patterns::proofs::Layers::bound_Any, term_patterns::proofs::Layers::bound_Fact, term_patterns::proofs::Layers::bound_Same, term_patterns::proofs::Layers::bound_Compared))]
 pub(crate) fn folded_condition(
     alloc: Global,
     statics: &Statics,

@@ -8,7 +8,7 @@ ghost use Rattle.folded_terms.specs.Goals.{IsGoal, IsGoalFault};
 ghost use Rattle.folded_terms.specs.Settled.{settled_of};
 
 use crate::faults::FoldError;
-use crate::patterns::CondPattern;
+use crate::folds::fold_condition;
 use crate::settled::CodedSettled;
 use crate::texts::written_text_of;
 use crate::unset::{Source, unset_in};
@@ -18,6 +18,7 @@ use num_ends::{NoMemory, Text};
 use pddl_types::{Checked, Side};
 use static_facts::Statics;
 use std::alloc::Global;
+use term_patterns::CondPattern;
 
 fn goal_text(alloc: Global) -> Result<Text, NoMemory>
     ensures { IfOk result (λ text. text ≡ codes "goal") }
@@ -58,7 +59,7 @@ fn folded_term(
     ensures { MatchResult result (λ s. folded_goal checked.now ≡ Ok (settled_of s)) (IsFoldFault (folded_goal checked.now)) }
 {
     let pattern = CondPattern::new(alloc, checked, statics, &[], &checked.problem().goal)?;
-    pattern.fold(alloc, &[])
+    fold_condition(alloc, &pattern, &[])
 }
 
 fn folded_whole(

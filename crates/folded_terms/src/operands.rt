@@ -9,13 +9,13 @@ ghost use Rattle.ground_meaning.specs.Expressions.Operand.{computed};
 ghost use Rattle.folded_terms.specs.Faults.{IsFoldFault};
 ghost use Rattle.folded_terms.specs.Operands.{operand_of};
 
-use crate::arithmetic;
 use crate::faults::FoldError;
 use coded_actions::CodedExpr;
 use num_ends::{Dec, NoMemory};
 use pddl_terms::Op;
 use sqlite_items::Boxed;
 use std::alloc::Global;
+use term_patterns::arithmetic;
 
 /// A folded expression.
 #[derive(Debug, Drop)]

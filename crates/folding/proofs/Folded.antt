@@ -1,6 +1,6 @@
 -- Folds one after another, and their faults.
 use Rattle.std.proofs.Common.{◌≡◌, ◌<◌, ◌++◌, ℕ, List, [], ◌∷◌, length, refl, sym, ap, subst, ◌∙◌}
-use Rattle.std.specs.Prelude.{Result, Ok, Err, flat_map}
+use Rattle.std.specs.Prelude.{Result, Ok, flat_map}
 use Rattle.pddl_terms.specs.declared.names.Typed.{Typed}
 use Rattle.pddl_terms.specs.declared.actions.Effect.{Effect}
 use Rattle.pddl_terms.specs.declared.actions.Effect.TheVariants as effect

@@ -1,4 +1,5 @@
 mod Grown
+mod SoundEffects
 mod Folded
 mod Outcomes
 mod SameParts

@@ -1,5 +1,5 @@
 -- What becomes of a binding, case by case.
-use Rattle.std.proofs.Common.{◌≡◌, ℕ, Bool, true, false, List, map, Option, Some, None, refl, sym, ap, subst, ◌∙◌}
+use Rattle.std.proofs.Common.{◌≡◌, ℕ, Bool, true, false, List, map, Option, Some, None, refl, sym, ap, ◌∙◌}
 use Rattle.std.specs.Prelude.{Result, Ok, Err, IfOk, not, if◌then◌else◌}
 use Rattle.std.specs.Option.{option_map_or}
 use Rattle.pddl_terms.specs.declared.actions.Schema.{Schema}
@@ -8,27 +8,35 @@ use Rattle.pddl_types.specs.declared.pairs.Pair.{Pair}
 use Rattle.static_facts.specs.Atoms.{names}
 use Rattle.pddl_meaning.specs.Worlds.{initial_world}
 use Rattle.pddl_meaning.specs.Steps.{is_ready}
-use Rattle.ground_task.specs.declared.raw.Change.{Change}
 use Rattle.coded_actions.specs.declared.coded.CodedAction.{CodedAction}
 use Rattle.coded_actions.specs.Coded.{action_of, condition_of, effects_of}
-use Rattle.ground_meaning.specs.declared.faults.GroundFault.{GroundFault}
 use Rattle.ground_meaning.specs.declared.faults.GroundFault.TheVariants as fault
 use Rattle.ground_meaning.specs.Results.{after, mapped}
 use Rattle.ground_meaning.specs.Expressions.{FoldFault}
 use Rattle.ground_meaning.specs.Conditions.{Settled, as_condition, folded_condition, is_decided}
+use Rattle.ground_meaning.specs.Conditions.Settled.{decided, remaining}
 use Rattle.ground_meaning.specs.Actions.{FoldedAction, FoldedChange, action_text, added_facts, as_numeric_effect, coded_action, deleted_facts, folded_action, folded_changes}
-use Rattle.ground_meaning.specs.Outcomes.{Outcome, first_unset, fold_refusal, folded_outcome, outcome, outcome_of}
+use Rattle.ground_meaning.specs.Outcomes.{Outcome, first_unset, folded_outcome, outcome, outcome_of}
 use Rattle.ground_meaning.specs.Outcomes.Outcome.{Dropped, Kept, Refused}
 use Rattle.folded_terms.specs.declared.faults.FoldError.{FoldError}
 use Rattle.folded_terms.specs.declared.faults.FoldError.TheVariants as error
 use Rattle.folded_terms.specs.Faults.{IsFoldFault}
-use Rattle.folding.specs.Folding.{IsKept, IsRefusedBy}
 use Rattle.folding.specs.declared.changes.FoldedParts.{FoldedParts}
 use Rattle.folding.specs.declared.changes.NamedFacts.{NamedFacts}
 use Rattle.folding.specs.internal.Parts.{AreFactsOf, IsMadeOf, action_parts, effects_after}
+use Rattle.term_verdicts.specs.Verdicts.{truth_of}
+use Rattle.folding.specs.internal.Sound.{is_answered}
 use Rattle.folding.proofs.Folded.{fault_after}
 
 -- ---- a fold
+
+-- a precondition of which it is known that it is false
+pub false_condition : (r : Result Settled FoldFault) (truth : Bool) → mapped truth_of r ≡ Ok (Some truth) → not truth ≡ true → r ≡ Ok (decided false)
+false_condition (Ok (decided true)) true h k = cc
+false_condition (Ok (decided true)) false h k = cc
+false_condition (Ok (decided false)) truth h k = refl
+false_condition (Ok (remaining g)) truth h k = cc
+false_condition (Err f) truth h k = cc
 
 module _ (p : Pair) (s : Schema) (args : List (List ℕ)) where
   pub condition_then : (condition : Settled) → folded_condition p s.params args s.pre true ≡ Ok condition → folded_action p s args ≡ effects_after p s args condition
@@ -78,6 +86,22 @@ module _ (p : Pair) (s : Schema) (os : List ℕ) where
   pub ready : is_ready s (names p os) (initial_world p) ≡ true → outcome p s os ≡ outcome_of p s (names p os) (folded_action p s (names p os))
   unfolding outcome
   ready h = ap (λ (t : Bool). if not t then Dropped else outcome_of p s (names p os) (folded_action p s (names p os))) h
+
+  left_out_of : (r : Result (List FoldedChange) FoldFault) → is_answered r ≡ true
+      → outcome_of p s (names p os) (mapped (λ changes. record { condition = decided false; changes = changes }) r) ≡ Dropped
+  left_out_of (Ok changes) h = refl
+  left_out_of (Err f) h = cc
+
+  whether_ready : (test : Bool) (o : Outcome) → o ≡ Dropped → (if not test then Dropped else o) ≡ Dropped
+  whether_ready true o h = h
+  whether_ready false o h = refl
+
+  -- a precondition that is false, and effects without a fault
+  pub left_out : folded_condition p s.params (names p os) s.pre true ≡ Ok (decided false) → is_answered (folded_changes p s.params (names p os) s.effects) ≡ true → outcome p s os ≡ Dropped
+  unfolding outcome
+  left_out h k =
+      whether_ready (is_ready s (names p os) (initial_world p)) (outcome_of p s (names p os) (folded_action p s (names p os)))
+      (ap (outcome_of p s (names p os)) (condition_then p s (names p os) (decided false) h) ∙ left_out_of (folded_changes p s.params (names p os) s.effects) k)
 
 -- ---- the action of the task
 

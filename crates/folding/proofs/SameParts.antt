@@ -1,6 +1,5 @@
 -- What holds of a folder holds of its parts.
-use Rattle.std.proofs.Common.{◌≡◌, ◌<◌, ℕ, Bool, true, List, Option, length, sym, ap, subst, ◌∙◌}
-use Rattle.std.specs.Prelude.{Result}
+use Rattle.std.proofs.Common.{◌≡◌, ◌<◌, ℕ, true, List, length, sym, ap, subst, ◌∙◌}
 use Rattle.pddl_terms.specs.declared.names.Typed.{Typed}
 use Rattle.pddl_terms.specs.declared.conditions.Cond.{Cond}
 use Rattle.pddl_terms.specs.declared.actions.Schema.{Schema}
@@ -10,9 +9,8 @@ use Rattle.pddl_types.specs.WellFormed.{Each}
 use Rattle.static_facts.specs.Atoms.{names}
 use Rattle.pddl_meaning.specs.Worlds.{initial_world}
 use Rattle.pddl_meaning.specs.Steps.{is_ready}
-use Rattle.ground_meaning.specs.Expressions.{FoldFault}
-use Rattle.ground_meaning.specs.Conditions.{Settled, folded_condition}
-use Rattle.ground_meaning.specs.Actions.{FoldedChange, added_facts, deleted_facts, folded_changes}
+use Rattle.ground_meaning.specs.Conditions.{folded_condition}
+use Rattle.ground_meaning.specs.Actions.{added_facts, deleted_facts, folded_changes}
 use Rattle.ground_meaning.specs.Outcomes.{first_unset}
 
 module _ (q w : Pair × Schema) (same : q ≡ w) (os : List ℕ) where

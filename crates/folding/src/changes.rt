@@ -1,9 +1,10 @@
 //! Numeric effects, with their names looked up, and as they are folded one after another.
 
 use bound_atoms::FluentPattern;
-use folded_terms::{CodedOperand, CodedSettled, ExprPattern};
+use folded_terms::{CodedOperand, CodedSettled};
 use num_ends::{List, Text};
 use pddl_terms::Assign;
+use term_patterns::ExprPattern;
 
 /// A numeric effect with its names looked up.
 #[derive(Drop)]

@@ -1,23 +1,26 @@
 //! The numeric effects of an action under a binding.
 
-ghost use Rattle.std.specs.Prelude.{◌≡◌, ◌<◌, ◌++◌, [], IfOk, MatchResult, OnOk, Ok, flat_map, length};
+ghost use Rattle.std.specs.Prelude.{◌≡◌, ◌<◌, ◌++◌, [], true, IfOk, MatchResult, OnOk, Ok, flat_map, length};
 ghost use Rattle.pddl_types.specs.Pairs.{objects_of};
 ghost use Rattle.pddl_types.specs.WellFormed.{Each};
 ghost use Rattle.static_facts.specs.Atoms.{names};
 ghost use Rattle.ground_meaning.specs.Actions.{folded_changes};
 ghost use Rattle.folded_terms.specs.Faults.{IsFoldFault};
 ghost use Rattle.folding.specs.internal.Changes.{IsChangeBoundBy, all_pending, change_patterns, with_pattern, with_patterns};
+ghost use Rattle.folding.specs.internal.Sound.{is_answered};
 
 use crate::changes::{ChangePattern, PendingChange};
 use crate::growth::add_change;
+use crate::sound::are_sound;
 use bound_actions::Scope;
 use bound_atoms::FluentPattern;
-use folded_terms::{ExprPattern, FoldError};
+use folded_terms::{FoldError, fold_expression};
 use num_ends::NoMemory;
 use pddl_terms::{Effect, Schema};
 use pddl_types::Checked;
 use std::alloc::Global;
 use std::marker::Model;
+use term_patterns::ExprPattern;
 
 /// The numeric effects of an action, with names looked up. Contracts see the pair and the action.
 #[derive(Drop)]
@@ -88,7 +91,7 @@ fn add_pattern(
     requires bound { IsChangeBoundBy objects.now pattern.now }
     ensures { MatchResult result (λ _. with_pattern objects.now (all_pending changes.old.items) pattern.now ≡ Ok (all_pending changes.new.items)) (IsFoldFault (with_pattern objects.now (all_pending changes.old.items) pattern.now)) }
 {
-    let value = pattern.value.fold(alloc, objects)?;
+    let value = fold_expression(alloc, &pattern.value, objects)?;
     add_change(
         alloc,
         pattern.how,
@@ -142,5 +145,15 @@ impl<'a> NumericEffects<'a> {
         ensures { MatchResult result (λ cs. folded_changes self.now.0 self.now.1.params (names self.now.0 objects.now) self.now.1.effects ≡ Ok (all_pending cs.items)) (IsFoldFault (folded_changes self.now.0 self.now.1.params (names self.now.0 objects.now) self.now.1.effects)) }
     {
         folded(alloc, self.changes.as_slice(), objects)
+    }
+
+    /// Whether each effect has no fault by itself and none is joined to another, with the parameters bound to objects.
+    /// Nothing is built.
+    pub(crate) fn are_sound(&self, objects: &[u32]) -> bool
+        requires as_many { length objects.now ≡ length self.now.1.params }
+        requires known { Each (λ o. o < length (objects_of self.now.0)) objects.now }
+        ensures { result ≡ true → is_answered (folded_changes self.now.0 self.now.1.params (names self.now.0 objects.now) self.now.1.effects) ≡ true }
+    {
+        are_sound(self.changes.as_slice(), objects)
     }
 }

@@ -1,12 +1,15 @@
 //! An action under one binding after another.
 
-ghost use Rattle.std.specs.Prelude.{◌≡◌, ◌<◌, Some, Ok, IfOk, MatchResult, length, slice_get};
+ghost use Rattle.std.specs.Prelude.{◌≡◌, ◌<◌, false, true, Some, Ok, IfOk, MatchResult, length, slice_get};
 ghost use Rattle.pddl_types.specs.Pairs.{objects_of};
 ghost use Rattle.pddl_types.specs.WellFormed.{Each};
 ghost use Rattle.static_facts.specs.Atoms.{names};
 ghost use Rattle.coded_actions.specs.Coded.{action_of};
 ghost use Rattle.ground_meaning.specs.Actions.{coded_action, folded_action};
+ghost use Rattle.ground_meaning.specs.Conditions.{folded_condition};
+ghost use Rattle.ground_meaning.specs.Conditions.Settled.{decided};
 ghost use Rattle.ground_meaning.specs.Outcomes.{folded_outcome, outcome, outcome_of};
+ghost use Rattle.ground_meaning.specs.Outcomes.Outcome.{Dropped};
 ghost use Rattle.folded_terms.specs.Faults.{IsFoldFault};
 ghost use Rattle.folding.specs.Folding.{IsKept, IsRefusedBy};
 ghost use Rattle.folded_terms.specs.Settled.{settled_of};
@@ -18,7 +21,7 @@ use crate::effects::NumericEffects;
 use crate::growth::numeric_effects;
 use bound_actions::{AssignedFluents, Facts, Readiness, Scope, action_text};
 use coded_actions::CodedAction;
-use folded_terms::{CodedSettled, CondPattern, FoldError};
+use folded_terms::{CodedSettled, FoldError, fold_condition};
 use ground_meaning::GroundFault;
 use num_ends::{List, NoMemory};
 use pddl_terms::Schema;
@@ -26,6 +29,8 @@ use pddl_types::{Checked, Side};
 use static_facts::Statics;
 use std::alloc::Global;
 use std::marker::Model;
+use term_patterns::CondPattern;
+use term_verdicts::condition_verdict;
 
 /// An action with its names looked up, for one binding after another. Contracts see the pair and the action.
 #[derive(Drop)]
@@ -166,7 +171,7 @@ impl<'a> Folder<'a> {
         requires known { Each (λ o. o < length (objects_of self.now.0)) objects.now }
         ensures { MatchResult result (λ f. folded_action self.now.0 self.now.1 (names self.now.0 objects.now) ≡ Ok (action_parts f)) (IsFoldFault (folded_action self.now.0 self.now.1 (names self.now.0 objects.now))) }
     {
-        match self.condition.fold(alloc, objects) {
+        match fold_condition(alloc, &self.condition, objects) {
             Ok(condition) => self.with_effects(alloc, objects, condition),
             Err(error) => Err(error),
         }
@@ -271,8 +276,35 @@ impl<'a> Folder<'a> {
         }
     }
 
+    // Whether the precondition is false, and nothing in it has a fault.
+    fn is_false(&self, objects: &[u32]) -> bool
+        requires as_many { length objects.now ≡ length self.now.1.params }
+        requires known { Each (λ o. o < length (objects_of self.now.0)) objects.now }
+        ensures { result ≡ true → folded_condition self.now.0 self.now.1.params (names self.now.0 objects.now) self.now.1.pre true ≡ Ok (decided false) }
+    {
+        match condition_verdict(&self.condition, objects) {
+            Ok(Some(truth)) => !truth,
+            Ok(None) => false,
+            Err(_) => false,
+        }
+    }
+
+    // Whether the precondition is false, and no effect has a fault: such a binding is left out, whether or not it is
+    // ready, and nothing is built to find it out. Where effects are joined to one another the answer is no.
+    fn is_left_out(&self, objects: &[u32]) -> bool
+        requires as_many { length objects.now ≡ length self.now.1.params }
+        requires known { Each (λ o. o < length (objects_of self.now.0)) objects.now }
+        ensures { result ≡ true → outcome self.now.0 self.now.1 objects.now ≡ Dropped }
+    {
+        if self.is_false(objects) {
+            return self.effects.are_sound(objects);
+        }
+        false
+    }
+
     /// What becomes of a binding of the parameters to objects: None where it is left out, the folded action where it is
-    /// kept, and else why it refuses the pair. A binding that isn't ready costs no memory.
+    /// kept, and else why it refuses the pair. A binding that isn't ready costs no memory, nor does one whose precondition
+    /// is false, unless two of its effects add to one fluent.
     pub fn outcome(
         &self,
         alloc: Global,
@@ -282,6 +314,9 @@ impl<'a> Folder<'a> {
         requires known { Each (λ o. o < length (objects_of self.now.0)) objects.now }
         ensures { MatchResult result (IsKept (outcome self.now.0 self.now.1 objects.now)) (IsRefusedBy (outcome self.now.0 self.now.1 objects.now)) }
     {
+        if self.is_left_out(objects) {
+            return Ok(None);
+        }
         if self.readiness.is_ready(objects) {
             return self.ready_outcome(alloc, objects);
         }

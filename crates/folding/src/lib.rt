@@ -5,5 +5,6 @@ mod changes;
 mod effects;
 mod folder;
 mod growth;
+mod sound;
 
 pub use folder::Folder;

@@ -3,7 +3,7 @@ use Rattle.std.specs.Prelude.{◌++◌, ◌||◌, Bool, true, false, not, List, 
 use Rattle.ground_task.specs.declared.raw.GCond.{GCond}
 use Rattle.ground_task.specs.declared.raw.GCond.TheVariants as c
 use Rattle.ground_task.specs.Ranged.{top_conjuncts}
-use Rattle.ground_meaning.specs.Conditions.{Settled, all_of, any_of, is_decided, joined, remaining_members, top_disjuncts}
+use Rattle.ground_meaning.specs.Conditions.{Settled, is_decided, joined, remaining_members, top_disjuncts}
 use Rattle.ground_meaning.specs.Conditions.Settled.{decided}
 use Rattle.coded_actions.specs.Coded.{condition_of}
 use Rattle.folded_terms.specs.declared.joints.CodedJoint.{CodedJoint}
@@ -16,10 +16,6 @@ top_members false = top_disjuncts
 abbrev pub connected : Bool → List GCond → GCond
 connected true = c.And
 connected false = c.Or
-
-abbrev pub joins : Bool → List Settled → Settled
-joins true = all_of
-joins false = any_of
 
 -- what is known of members so far: one decides the whole, and what remains of them
 pub record Joint : Type 0 where

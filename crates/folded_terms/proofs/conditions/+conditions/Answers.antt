@@ -1,6 +1,6 @@
 use Rattle.std.proofs.Common.{map}
 use Rattle.ground_meaning.specs.Results.{all_answers}
-use Rattle.folded_terms.specs.Bound.{bound_condition}
+use Rattle.term_patterns.specs.Bound.{bound_condition}
 use Rattle.folded_terms.proofs.TopMembers.{none_joined}
 use Rattle.folded_terms.proofs.conditions.+conditions.Goals as goal
 

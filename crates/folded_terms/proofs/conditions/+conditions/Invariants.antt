@@ -1,7 +1,7 @@
 use Rattle.std.proofs.Common.{◌≡◌, drop, map}
 use Rattle.ground_meaning.specs.Results.{all_answers, mapped}
-use Rattle.folded_terms.specs.Bound.{bound_condition}
-use Rattle.folded_terms.specs.internal.Joints.{finished, joint_meaning, joint_of, joins}
+use Rattle.term_patterns.specs.Bound.{bound_condition, joins}
+use Rattle.folded_terms.specs.internal.Joints.{finished, joint_meaning, joint_of}
 use Rattle.folded_terms.proofs.conditions.+conditions.Given as goal
 
 abbrev pub invariant-folded_members-each : goal.invariant-folded_members-each

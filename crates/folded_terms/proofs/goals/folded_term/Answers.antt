@@ -9,6 +9,6 @@ use Rattle.folded_terms.proofs.goals.folded_term.Goals as goal
 
 pub returns : goal.returns
 returns c =
-    subst (λ (r : Result Settled FoldFault). MatchResult c.fold.result (λ s. r ≡ Ok (settled_of s)) (IsFoldFault r))
+    subst (λ (r : Result Settled FoldFault). MatchResult c.fold_condition.result (λ s. r ≡ Ok (settled_of s)) (IsFoldFault r))
     (goal_seen c.args.checked.now c.problem.result.now c.in_ok-pattern.pattern c.in_ok-pattern.ensures c.problem.ensures.problem)
-    c.fold.ensures
+    c.fold_condition.ensures

@@ -1,0 +1,5 @@
+pub mod Chained
+pub mod Filled
+pub mod Decided
+pub mod Layers
+pub mod SeenTerms

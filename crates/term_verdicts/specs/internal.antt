@@ -1,0 +1,3 @@
+-- Internal: what only the contracts inside this crate speak of.
+pub mod Bound
+pub mod Truths
