@@ -1,7 +1,7 @@
 -- Boxes that lie within each other have one line.
-use Rattle.std.proofs.Common.{◌≡◌, ℕ, zero, suc, ◌<◌, ◌++◌, true, false, List, [], ◌∷◌, length, get_or, zip, flat_map, codes, sym, refl, ap, ap₂, ◌∙◌, subst, arith}
+use Rattle.std.proofs.Common.{◌≡◌, ℕ, suc, ◌<◌, ◌++◌, true, List, [], ◌∷◌, length, get_or, zip, flat_map, codes, refl, ap, ap₂, subst, arith}
 use Rattle.std.proofs.lemmas.Bool.{and_parts, both_ways}
-use Rattle.num_ends.specs.Decimal.{Decimal, is_at_most, is_less, trimmed}
+use Rattle.num_ends.specs.Decimal.{Decimal, is_at_most, is_less}
 use Rattle.num_ends.specs.Ends.{Interval, is_within, lower_covers, upper_covers, whole_line}
 use Rattle.num_ends.specs.Texts.{decimal_text, interval_text, lower_text, trimmed_text, upper_text}
 use Rattle.num_ends.specs.declared.ends.End.{End}
@@ -13,7 +13,7 @@ use Rattle.box_model.specs.Boxes.{fact_in, fluent_in, is_may_within, LiesWithin}
 use Rattle.box_model.specs.declared.state_box.May.{May}
 use Rattle.box_model.specs.declared.state_box.May.TheVariants.{True, False, Any}
 use Rattle.box_model.specs.declared.state_box.StateBox.{StateBox}
-use Rattle.cert_text.specs.Lines.{box_line, fact_parts, fluent_parts, may_text, part_text}
+use Rattle.cert_text.specs.Lines.{box_line, may_text, part_text}
 
 -- ---- ends
 

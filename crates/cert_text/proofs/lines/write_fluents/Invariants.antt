@@ -1,8 +1,7 @@
-use Rattle.std.proofs.Common.{◌≡◌, ◌++◌, drop}
-use Rattle.cert_text.specs.Lines.{fluent_parts}
+use Rattle.std.proofs.Common.{◌≡◌, ◌++◌, take}
+use Rattle.cert_text.specs.Lines.{version_fluent_parts}
 use Rattle.cert_text.proofs.lines.write_fluents.Given as goal
 
-abbrev pub invariant-loop-fluent : goal.invariant-loop-fluent
-invariant-loop-fluent l =
-    l.out ++ fluent_parts (drop l.fluent l.names) (drop l.fluent l.fluents)
-    ≡ l.initial.out ++ fluent_parts l.names l.fluents
+abbrev pub invariant-each : goal.invariant-each
+invariant-each l =
+    l.out ≡ l.fn.out ++ version_fluent_parts l.version (take l.number l.names) (take l.number l.fluents)
