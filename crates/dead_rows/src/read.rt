@@ -86,7 +86,7 @@ impl DeadRows {
         start: usize,
         place: usize,
         kind: u64,
-        value: Dec,
+        value: &Dec,
     ) -> bool
         requires seat { CanRead (store_id self.now) seat.old row }
         requires start { start ≡ row_start (width_of self.now.rows) row }
@@ -95,7 +95,7 @@ impl DeadRows {
         requires end { IsEndWords (row_words seat.old row) place }
         ensures seat { CanRead (store_id self.now) seat.new row }
         ensures view { view_of seat.new ≡ view_of seat.old }
-        ensures lets_in { result ≡ is_above (end_at NegInf (row_words seat.old row) place) value }
+        ensures lets_in { result ≡ is_above (end_at NegInf (row_words seat.old row) place) value.now }
     {
         let places = self.word_from(seat, row, start, place + 1);
         let high = self.word_from(seat, row, start, place + 2);
@@ -112,7 +112,7 @@ impl DeadRows {
         start: usize,
         place: usize,
         kind: u64,
-        value: Dec,
+        value: &Dec,
     ) -> bool
         requires seat { CanRead (store_id self.now) seat.old row }
         requires start { start ≡ row_start (width_of self.now.rows) row }
@@ -121,7 +121,7 @@ impl DeadRows {
         requires end { IsEndWords (row_words seat.old row) place }
         ensures seat { CanRead (store_id self.now) seat.new row }
         ensures view { view_of seat.new ≡ view_of seat.old }
-        ensures lets_in { result ≡ is_below (end_at PosInf (row_words seat.old row) place) value }
+        ensures lets_in { result ≡ is_below (end_at PosInf (row_words seat.old row) place) value.now }
     {
         let places = self.word_from(seat, row, start, place + 1);
         let high = self.word_from(seat, row, start, place + 2);
@@ -137,7 +137,7 @@ impl DeadRows {
         row: usize,
         start: usize,
         place: usize,
-        value: Dec,
+        value: &Dec,
     ) -> bool
         requires seat { CanRead (store_id self.now) seat.old row }
         requires start { start ≡ row_start (width_of self.now.rows) row }
@@ -145,7 +145,7 @@ impl DeadRows {
         requires end { IsEndWords (row_words seat.old row) place }
         ensures seat { CanRead (store_id self.now) seat.new row }
         ensures view { view_of seat.new ≡ view_of seat.old }
-        ensures lets_in { result ≡ is_above (end_at NegInf (row_words seat.old row) place) value }
+        ensures lets_in { result ≡ is_above (end_at NegInf (row_words seat.old row) place) value.now }
     {
         let kind = self.word_from(seat, row, start, place);
         if kind == 0 {
@@ -162,7 +162,7 @@ impl DeadRows {
         row: usize,
         start: usize,
         place: usize,
-        value: Dec,
+        value: &Dec,
     ) -> bool
         requires seat { CanRead (store_id self.now) seat.old row }
         requires start { start ≡ row_start (width_of self.now.rows) row }
@@ -170,7 +170,7 @@ impl DeadRows {
         requires end { IsEndWords (row_words seat.old row) place }
         ensures seat { CanRead (store_id self.now) seat.new row }
         ensures view { view_of seat.new ≡ view_of seat.old }
-        ensures lets_in { result ≡ is_below (end_at PosInf (row_words seat.old row) place) value }
+        ensures lets_in { result ≡ is_below (end_at PosInf (row_words seat.old row) place) value.now }
     {
         let kind = self.word_from(seat, row, start, place);
         if kind == 0 {
@@ -187,7 +187,7 @@ impl DeadRows {
         row: usize,
         start: usize,
         fluent: usize,
-        value: Dec,
+        value: &Dec,
     ) -> bool
         requires seat { CanRead (store_id self.now) seat.old row }
         requires start { start ≡ row_start (width_of self.now.rows) row }
@@ -195,7 +195,7 @@ impl DeadRows {
         requires ends { AreEnds self.now.shape (row_words seat.old row) }
         ensures seat { CanRead (store_id self.now) seat.new row }
         ensures view { view_of seat.new ≡ view_of seat.old }
-        ensures has { result ≡ has (interval_at self.now.shape.facts (row_words seat.old row) fluent) value }
+        ensures has { result ≡ has (interval_at self.now.shape.facts (row_words seat.old row) fluent) value.now }
     {
         let place = self.shape.facts + 8 * fluent;
         if !self.lower_has(seat, row, start, place, value) {
@@ -236,7 +236,7 @@ impl DeadRows {
         let start = self.rows.start(row);
         'fluents: for fluent in 0..self.shape.places.len() {
             let value = self.shape.value(state, fluent);
-            if !self.fluent_has(seat, row, start, fluent, value) {
+            if !self.fluent_has(seat, row, start, fluent, &value) {
                 return false;
             }
         }
