@@ -5,3 +5,5 @@
 mod estimates;
 #[cfg(test)]
 mod numbers;
+#[cfg(test)]
+mod texts;

@@ -51,13 +51,13 @@ struct Examined {
     least_within_alone: bool,
 }
 
-fn text(alloc: Global, bytes: &[u8]) -> Result<Text, NoMemory>
+pub(crate) fn text(alloc: Global, bytes: &[u8]) -> Result<Text, NoMemory>
     ensures { IfOk result (λ t. t ≡ bytes.now) }
 {
     Ok(Text::from_vec(Vec::from_slice(alloc, bytes)?))
 }
 
-fn pair<T: Drop>(alloc: Global, a: T, b: T) -> Result<List<T>, NoMemory>
+pub(crate) fn pair<T: Drop>(alloc: Global, a: T, b: T) -> Result<List<T>, NoMemory>
     ensures { IfOk result (λ l. l ≡ a ∷ b ∷ []) }
 {
     let mut items = List::new(alloc);
@@ -66,7 +66,7 @@ fn pair<T: Drop>(alloc: Global, a: T, b: T) -> Result<List<T>, NoMemory>
     Ok(items)
 }
 
-fn one<T: Drop>(alloc: Global, a: T) -> Result<List<T>, NoMemory>
+pub(crate) fn one<T: Drop>(alloc: Global, a: T) -> Result<List<T>, NoMemory>
     ensures { IfOk result (λ l. l ≡ a ∷ []) }
 {
     let mut items = List::new(alloc);
@@ -74,7 +74,7 @@ fn one<T: Drop>(alloc: Global, a: T) -> Result<List<T>, NoMemory>
     Ok(items)
 }
 
-fn tenths(n: i8) -> Dec
+pub(crate) fn tenths(n: i8) -> Dec
     ensures { result ≡ record { n = n; p = 1 } }
 {
     Dec {
@@ -204,7 +204,7 @@ fn examine(alloc: Global, task: &Task, cap: Option<End>) -> Result<Examined, NoM
 }
 
 /// Lets a task go.
-fn discard(_task: Task) {}
+pub(crate) fn discard(_task: Task) {}
 
 fn examine_row(alloc: Global, row: Row) -> Result<Examined, NoMemory> {
     let bound = row.guard;
@@ -218,7 +218,7 @@ fn examine_row(alloc: Global, row: Row) -> Result<Examined, NoMemory> {
     found
 }
 
-fn is_interval(found: Option<Interval>, wanted: Option<Interval>) -> bool {
+pub(crate) fn is_interval(found: Option<Interval>, wanted: Option<Interval>) -> bool {
     match (found, wanted) {
         (Some(found), Some(wanted)) => found.within(wanted) && wanted.within(found),
         _ => false,
