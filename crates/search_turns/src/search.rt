@@ -1,14 +1,9 @@
 //! A search with its journal.
 
-ghost use Rattle.std.specs.Prelude.{◌≡◌, ◌≤◌, [], ◌∷◌, length, IfNone, IfOk, IfSome};
-ghost use Rattle.box_model.specs.Boxes.{Contains};
-ghost use Rattle.ground_task.specs.States.{StateValue};
+ghost use Rattle.std.specs.Prelude.{◌≡◌, ◌≤◌, [], ◌∷◌, length, IfOk};
 ghost use Rattle.ground_task.specs.Tasks.{first_state};
 ghost use Rattle.search_nodes.specs.Growth.{FitsState, FitsView};
-ghost use Rattle.search_nodes.specs.Tables.{IsNew, config_of};
-ghost use Rattle.search_runs.specs.KeptBoxes.{IsFirstIn, IsInNone};
-ghost use Rattle.search_runs.specs.Spaces.{IsAt};
-ghost use Rattle.search_runs.specs.declared.nodes.Node.{Node};
+ghost use Rattle.search_nodes.specs.Tables.{config_of};
 ghost use Rattle.search_runs.specs.Nodes.{nothing};
 ghost use Rattle.search_runs.specs.declared.events.Event.TheVariants as event;
 ghost use Rattle.search_turns.specs.Turns.{HasFirst, IsStarted};
@@ -16,8 +11,8 @@ ghost use Rattle.search_turns.specs.Turns.{HasFirst, IsStarted};
 use crate::turns::{make_room, record};
 use explored::Most;
 use ground_task::{State, Task};
-use num_ends::{List, NoMemory};
-use search_nodes::{Finished, SearchNodes, View};
+use num_ends::NoMemory;
+use search_nodes::{SearchNodes, View};
 use search_runs::Event;
 use std::alloc::Global;
 use std::marker::Model;
@@ -144,50 +139,6 @@ impl SearchTurns {
         ensures { result.now ≡ self.now.table.task }
     {
         self.nodes.task()
-    }
-
-    /// How many nodes may be taken.
-    pub fn limit(&self) -> u32
-        ensures { result ≡ self.now.limit }
-    {
-        self.limit
-    }
-
-    /// The number of nodes.
-    pub fn len(&self) -> u32
-        ensures { result ≡ length self.now.table.nodes }
-    {
-        self.nodes.len()
-    }
-
-    /// The node of this state.
-    pub fn knows(&self, state: &State) -> Option<u32>
-        ensures found { IfSome result (λ n. (x : Node StateValue) × IsAt self.now.table.nodes n x × (x.state ≡ state.now)) }
-        ensures absent { IfNone result (IsNew self.now.table.nodes state.now) }
-    {
-        self.nodes.knows(state)
-    }
-
-    /// The first kept box that contains the state.
-    pub fn kept(&self, state: &State) -> Option<u32>
-        requires of_task { FitsState self.now.table.task state.now }
-        ensures found { IfSome result (λ b. IsFirstIn (Contains self.now.table.task.places) self.now.table.boxes state.now b) }
-        ensures absent { IfNone result (IsInNone (Contains self.now.table.task.places) self.now.table.boxes state.now) }
-    {
-        self.nodes.kept(state)
-    }
-
-    /// Ends the search, and gives what it has found with its events. This takes no memory.
-    pub fn finish(self) -> (Finished, List<Event>)
-        ensures task { result.0.task ≡ self.table.task }
-        ensures nodes { result.0.nodes ≡ self.table.nodes }
-        ensures boxes { result.0.boxes ≡ self.table.boxes }
-        ensures over { result.0.over ≡ self.table.over }
-        ensures full { result.0.full ≡ self.table.full }
-        ensures journal { result.1 ≡ self.journal }
-    {
-        let SearchTurns { nodes, journal, .. } = self;
-        (nodes.finish(), List::from_vec(journal))
     }
 
     /// The number of events.
