@@ -1,0 +1,10 @@
+pub mod Sides
+pub mod Chains
+pub mod Growths
+pub mod Meets
+pub mod Alls
+pub mod RowBoxes
+pub mod Closing
+pub mod Inner
+pub mod SystemLaws
+pub mod Order

@@ -1,0 +1,9 @@
+pub mod Candidates
+pub mod Ranks
+pub mod Rules
+pub mod BoxRows
+pub mod Moves
+pub mod Asking
+pub mod Instances
+pub mod Systems
+pub mod Tables
