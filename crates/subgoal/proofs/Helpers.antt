@@ -4,7 +4,7 @@ use Rattle.std.specs.List.{list_any}
 use Rattle.std.specs.Option.{option_and_then}
 use Rattle.std.proofs.lemmas.Bool.{cases_Bool}
 use Rattle.std.proofs.lemmas.List.{length-drop}
-use Rattle.std.proofs.lemmas.Option.{slice_get-get_or, slice_get_past}
+use Rattle.std.proofs.lemmas.Option.{get_or_from_slice_get, slice_get-get_or, slice_get_past}
 use Rattle.num_ends.specs.Decimal.{Decimal, origin, trimmed, product_of}
 use Rattle.num_ends.specs.Range.{where_fits}
 use Rattle.ground_task.specs.declared.raw.Change.{Change}
@@ -42,6 +42,21 @@ reached_known help actions values i a other n another within within_too is also 
 
 pub reached_unknown : (help : Help) (actions : List Ground) (values : List ℕ) (i : ℕ) → length actions ≤ i → FAR ≡ reached_at help actions values i
 reached_unknown help actions values i past = sym (ap (λ (a : Option Ground). reached_in help a (slice_get values i)) (slice_get_past actions i past))
+
+far_by : (m : Option ℕ) (n : ℕ) → FAR ≤ n → FAR ≡ reached_by m n
+far_by None n far = refl
+far_by (Some m) n far = omega (arith, far)
+
+far_in : (help : Help) (a : Option Ground) (m : Option ℕ) → ((n : ℕ) → m ≡ Some n → FAR ≤ n) → FAR ≡ reached_in help a m
+far_in help None m far = refl
+far_in help (Some a) None far = refl
+far_in help (Some a) (Some n) far = far_by (help a) n (far n refl)
+
+-- behind a value of FAR nothing is nearer
+pub reached_far : (help : Help) (actions : List Ground) (values : List ℕ) (i n another : ℕ) → n ≡ get_or values i another → FAR ≤ n → i < length values
+    → FAR ≡ reached_at help actions values i
+reached_far help actions values i n another is far within =
+    far_in help (slice_get actions i) (slice_get values i) (λ m e. omega (arith, far, is, get_or_from_slice_get values i m another e))
 
 -- ---- the numbers of those that may help
 

@@ -4,7 +4,10 @@ pub mod ReadFluents
 pub mod Seen
 pub mod Repeating
 pub mod Steps
-pub mod Lowering
+pub mod Filling
 pub mod LeafLists
+pub mod AtomLists
 pub mod Helpers
 pub mod Reading
+pub mod Networks
+pub mod Improving

@@ -4,7 +4,7 @@ use Rattle.ground_task.specs.declared.raw.GCond.{GCond}
 use Rattle.ground_task.specs.declared.raw.Ground.{Ground}
 use Rattle.ground_task.specs.Tasks.{IsStateOf}
 use Rattle.simple_atoms.specs.Values.{gain_of}
-use Rattle.subgoal.specs.declared.conditions.View.{View}
+use Rattle.subgoal.specs.declared.atoms.View.{View}
 use Rattle.subgoal.specs.declared.unmet.Unmet.{Unmet}
 use Rattle.subgoal.specs.declared.unmet.Unmet.TheVariants.{Literal, Reads, Form}
 use Rattle.subgoal.specs.Equations.{Atoms, Help, condition_value, values_by, Solves}
@@ -40,17 +40,7 @@ pub record IsAbove (atoms : Atoms) (actions : List Ground) (v : List ℕ) : Type
   pub as_many : length v ≡ length actions
   pub above : (i : ℕ) → i < length actions → by_equation atoms actions v i ≤ at v i
 
--- one value is lowered; or nothing changes, and the value of this number isn't above that of its equation
-abbrev pub IsLowered : Atoms → List Ground → ℕ → List ℕ → List ℕ → Bool → Type 0
-IsLowered atoms actions i old new true = sum new < sum old
-IsLowered atoms actions i old new false = (new ≡ old) × (at old i ≤ by_equation atoms actions old i)
-
--- some value is lowered; or nothing changes, and none before this number is above that of its equation
-abbrev pub AreLoweredTo : Atoms → List Ground → ℕ → List ℕ → List ℕ → Bool → Type 0
-AreLoweredTo atoms actions i old new true = sum new < sum old
-AreLoweredTo atoms actions i old new false = (new ≡ old) × ((j : ℕ) → j < i → at old j ≤ by_equation atoms actions old j)
-
--- some value is lowered; or nothing changes, and the values solve the equations
+-- after a round: the values are lowered, and their sum is; or nothing changes, and they solve the equations
 abbrev pub AreLowered : Atoms → List Ground → List ℕ → List ℕ → Bool → Type 0
 AreLowered atoms actions old new true = sum new < sum old
 AreLowered atoms actions old new false = (new ≡ old) × Solves atoms actions new

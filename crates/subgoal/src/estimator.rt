@@ -4,13 +4,14 @@ ghost use Rattle.std.specs.Prelude.{◌≡◌, ◌<◌, ℕ, IfOk, length, slice
 ghost use Rattle.ground_task.specs.Tasks.{IsStateOf};
 ghost use Rattle.simple_atoms.specs.declared.linear.TheConstants.{FAR};
 ghost use Rattle.subgoal.specs.Estimates.{AreValues, IsEstimate};
-ghost use Rattle.subgoal.specs.Leaves.{leaves_of};
+ghost use Rattle.subgoal.specs.Help.{atoms_in};
+ghost use Rattle.subgoal.specs.Network.{weights_by, AreRules};
 
-use crate::conditions::{View, whole_value};
-use crate::improving::settle;
-use crate::leaves::{Leaf, all_leaves, leaves_of};
+use crate::conditions::{Reading, condition};
+use crate::network::{Network, Rules, network_of};
+use crate::rounds::settle;
 use ground_task::{State, Task};
-use num_ends::{List, NoMemory};
+use num_ends::NoMemory;
 use simple_atoms::FAR;
 use std::alloc::Global;
 use std::marker::Model;
@@ -19,11 +20,16 @@ use std::marker::Model;
 #[derive(Drop)]
 pub struct Estimator<'a> {
     task: &'a Task,
-    /// The leaves of each action's precondition.
-    leaves: Vec<List<Leaf>>,
-    /// The leaves of the goal.
-    goal: List<Leaf>,
+    /// The distinct atoms of the goal and of the preconditions.
+    network: Network<'a>,
+    /// How many of the network's numbers the goal has, which come first.
+    behind: usize,
+    /// The value of each action.
     values: Vec<u32>,
+    /// The value of each action after a round.
+    next: Vec<u32>,
+    /// The value of each atom.
+    weights: Vec<u32>,
 }
 
 impl<'a> Model for Estimator<'a> {
@@ -32,7 +38,7 @@ impl<'a> Model for Estimator<'a> {
     ghost use Rattle.std.specs.Coded.{codes};
     ghost use Rattle.std.specs.Prelude.{◌≡◌, length};
     ghost use Rattle.ground_task.specs.Tasks.{TaskValue};
-    ghost use Rattle.subgoal.specs.Leaves.{all_leaves, leaves_of};
+    ghost use Rattle.subgoal.specs.Network.{atoms_of, atoms_of_task, IsNetwork};
 
     ghost Value = { TaskValue };
 
@@ -40,7 +46,7 @@ impl<'a> Model for Estimator<'a> {
 
     ghost view = { λ e. e.task.now };
 
-    ghost invariant = { λ e. (length e.values.items ≡ length e.task.now.raw.actions) × (e.leaves.items ≡ all_leaves e.task.now.raw.actions) × (e.goal ≡ leaves_of e.task.now.raw.actions e.task.now.raw.goal) };
+    ghost invariant = { λ e. (length e.values.items ≡ length e.task.now.raw.actions) × (length e.next.items ≡ length e.task.now.raw.actions) × (length e.weights.items ≡ length e.network.atoms.items) × (e.behind ≡ length (atoms_of e.task.now.raw.goal)) × IsNetwork e.task.now e.network (atoms_of_task e.task.now) };
 }
 
 fn set_far(values: &mut Vec<u32>)
@@ -53,35 +59,34 @@ fn set_far(values: &mut Vec<u32>)
 }
 
 /// The value of the goal by values that solve the equations.
-#[tactic(auto, using(crate::proofs::Seen::goal_decidable))]
-fn goal_value(task: &Task, state: &State, values: &[u32], leaves: &[Leaf]) -> u32
-    requires of_task { IsStateOf task.now state.now }
-    requires as_many { length values.now ≡ length task.now.raw.actions }
-    requires leaves { leaves.now ≡ leaves_of task.now.raw.actions task.now.raw.goal }
-    requires solved { AreValues task.now state.now values.now }
-    ensures { IsEstimate task.now state.now result }
+fn goal_value(rules: &Rules, state: &State, values: &[u32], weights: &[u32]) -> u32
+    requires rules { AreRules rules.now }
+    requires solved { AreValues rules.now.task.now state.now values.now }
+    requires weights { weights.now ≡ weights_by (atoms_in rules.now.task.now state.now) rules.now.task.now.raw.actions values.now rules.now.network.now.atoms.items }
+    ensures { IsEstimate rules.now.task.now state.now result }
 {
-    let view = View {
-        task,
-        state,
-        values,
+    let reading = Reading {
+        weights,
+        numbers: rules.network.numbers.as_slice(),
     };
-    whole_value(&view, &task.raw().goal, leaves)
+    condition(&reading, &rules.task.raw().goal, 0).0
 }
 
 impl<'a> Estimator<'a> {
     pub fn new(alloc: Global, task: &'a Task) -> Result<Estimator<'a>, NoMemory>
         ensures { IfOk result (λ estimator. estimator ≡ task.now) }
     {
-        let actions = task.raw().actions.as_slice();
-        let leaves = all_leaves(alloc, actions)?;
-        let goal = leaves_of(alloc, actions, &task.raw().goal)?;
-        let values = vec![in alloc; FAR; actions.len()]?;
+        let (network, behind) = network_of(alloc, task)?;
+        let values = vec![in alloc; FAR; task.raw().actions.len()]?;
+        let next = vec![in alloc; FAR; task.raw().actions.len()]?;
+        let weights = vec![in alloc; FAR; network.atoms.len()]?;
         Ok(Estimator {
             task,
-            leaves,
-            goal,
+            network,
+            behind,
             values,
+            next,
+            weights,
         })
     }
 
@@ -92,12 +97,24 @@ impl<'a> Estimator<'a> {
         ensures kept { self.new ≡ self.old }
     {
         set_far(&mut self.values);
-        settle(self.task, state, &mut self.values, self.leaves.as_slice());
+        set_far(&mut self.weights);
+        let rules = Rules {
+            task: self.task,
+            network: &self.network,
+            behind: self.behind,
+        };
+        settle(
+            &rules,
+            state,
+            &mut self.values,
+            &mut self.weights,
+            &mut self.next,
+        );
         goal_value(
-            self.task,
+            &rules,
             state,
             self.values.as_slice(),
-            self.goal.as_slice(),
+            self.weights.as_slice(),
         )
     }
 }

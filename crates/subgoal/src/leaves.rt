@@ -1,12 +1,11 @@
-//! What is known of the atoms of conditions in every state.
+//! What is known of an atom in every state.
 
-ghost use Rattle.std.specs.Prelude.{◌≡◌, ◌≤◌, ◌++◌, OnOk, IfOk, length};
-ghost use Rattle.std.specs.List.{flat_map};
+ghost use Rattle.std.specs.Prelude.{◌≡◌, ◌≤◌, IfOk, length};
 ghost use Rattle.subgoal.specs.Help.{makes};
-ghost use Rattle.subgoal.specs.Leaves.{all_leaves, changes_form, comparison_leaf, leaves_of, literal_leaf, may_help, numbers_of};
+ghost use Rattle.subgoal.specs.Leaves.{changes_form, comparison_leaf, literal_leaf, may_help, numbers_of};
 
 use crate::unmet::{changes_read, changes_term, makes};
-use ground_task::{GCond, GExpr, Ground, Rel};
+use ground_task::{GExpr, Ground, Rel};
 use num_ends::{List, NoMemory};
 use simple_atoms::{Linear, linear_form};
 use std::alloc::Global;
@@ -73,7 +72,12 @@ fn comparison_helpers(
     Ok(numbers)
 }
 
-fn literal_leaf(alloc: Global, actions: &[Ground], fact: u32, truth: bool) -> Result<Leaf, NoMemory>
+pub(crate) fn literal_leaf(
+    alloc: Global,
+    actions: &[Ground],
+    fact: u32,
+    truth: bool,
+) -> Result<Leaf, NoMemory>
     requires { length actions.now ≤ 20000 }
     ensures { IfOk result (λ leaf. leaf ≡ literal_leaf actions.now fact truth) }
 {
@@ -84,7 +88,7 @@ fn literal_leaf(alloc: Global, actions: &[Ground], fact: u32, truth: bool) -> Re
     })
 }
 
-fn comparison_leaf(
+pub(crate) fn comparison_leaf(
     alloc: Global,
     actions: &[Ground],
     rel: Rel,
@@ -97,74 +101,4 @@ fn comparison_leaf(
     let form = linear_form(alloc, rel, left, right)?;
     let helpers = comparison_helpers(alloc, actions, left, right, &form)?;
     Ok(Leaf { form, helpers })
-}
-
-/// Adds the leaves of a condition.
-#[cycle(leaves)]
-#[tactic(auto, using(crate::proofs::LeafLists::leaves_True, crate::proofs::LeafLists::leaves_False, crate::proofs::LeafLists::leaves_Fact, crate::proofs::LeafLists::leaves_Cmp, crate::proofs::LeafLists::leaves_And, crate::proofs::LeafLists::leaves_Or))]
-fn push_leaves(
-    alloc: Global,
-    actions: &[Ground],
-    cond: &GCond,
-    leaves: &mut List<Leaf>,
-) -> Result<(), NoMemory>
-    requires { length actions.now ≤ 20000 }
-    ensures { OnOk result (leaves.new ≡ leaves.old ++ leaves_of actions.now cond.now) }
-{
-    match cond {
-        GCond::True => Ok(()),
-        GCond::False => Ok(()),
-        GCond::Fact(fact, truth) => {
-            let leaf = literal_leaf(alloc, actions, *fact, *truth)?;
-            leaves.push(leaf)
-        }
-        GCond::Cmp(rel, left, right) => {
-            let leaf = comparison_leaf(alloc, actions, *rel, left, right)?;
-            leaves.push(leaf)
-        }
-        GCond::And(conds) => push_all_leaves(alloc, actions, conds.as_slice(), leaves),
-        GCond::Or(conds) => push_all_leaves(alloc, actions, conds.as_slice(), leaves),
-    }
-}
-
-#[cycle(leaves)]
-fn push_all_leaves(
-    alloc: Global,
-    actions: &[Ground],
-    conds: &[GCond],
-    leaves: &mut List<Leaf>,
-) -> Result<(), NoMemory>
-    requires { length actions.now ≤ 20000 }
-    ensures { OnOk result (leaves.new ≡ leaves.old ++ flat_map (leaves_of actions.now) conds.now) }
-{
-    'each: for cond in conds {
-        push_leaves(alloc, actions, cond, leaves)?;
-    }
-    Ok(())
-}
-
-/// The leaves of a condition, in the order in which its atoms stand.
-pub(crate) fn leaves_of(
-    alloc: Global,
-    actions: &[Ground],
-    cond: &GCond,
-) -> Result<List<Leaf>, NoMemory>
-    requires { length actions.now ≤ 20000 }
-    ensures { IfOk result (λ leaves. leaves ≡ leaves_of actions.now cond.now) }
-{
-    let mut leaves = List::new(alloc);
-    push_leaves(alloc, actions, cond, &mut leaves)?;
-    Ok(leaves)
-}
-
-/// The leaves of each action's precondition.
-pub(crate) fn all_leaves(alloc: Global, actions: &[Ground]) -> Result<Vec<List<Leaf>>, NoMemory>
-    requires { length actions.now ≤ 20000 }
-    ensures { IfOk result (λ all. all.items ≡ all_leaves actions.now) }
-{
-    let mut all = Vec::with_capacity(alloc, actions.len())?;
-    'each: for action in actions {
-        all.push(leaves_of(alloc, actions, &action.pre)?)?;
-    }
-    Ok(all)
 }

@@ -3,7 +3,7 @@ use Rattle.simple_atoms.specs.declared.linear.TheConstants.{FAR}
 use Rattle.subgoal.specs.Equations.{least_of}
 use Rattle.subgoal.specs.Leaves.{reached_at}
 use Rattle.subgoal.specs.Unmet.{help_of}
-use Rattle.subgoal.proofs.conditions.least_over.Given as goal
+use Rattle.subgoal.proofs.atoms.least_over.Given as goal
 
 abbrev pub invariant-each : goal.invariant-each
 invariant-each l =

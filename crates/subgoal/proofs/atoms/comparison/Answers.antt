@@ -5,7 +5,7 @@ use Rattle.subgoal.specs.Help.{help_by_truth, help_by_reads}
 use Rattle.subgoal.specs.Leaves.{reached_at}
 use Rattle.subgoal.specs.Unmet.{help_of}
 use Rattle.subgoal.proofs.Helpers.{form_least, reads_least}
-use Rattle.subgoal.proofs.conditions.comparison.Goals as goal
+use Rattle.subgoal.proofs.atoms.comparison.Goals as goal
 
 pub returns-in-No : goal.returns-in-No
 returns-in-No c = λ r is.
