@@ -1,0 +1,13 @@
+//! Certificates read from texts.
+#![tactic(auto)]
+
+mod cuts;
+mod faults;
+mod fits;
+mod lines;
+mod parts;
+mod read;
+mod values;
+
+pub use faults::CertFault;
+pub use read::read_cert;
