@@ -1,19 +1,19 @@
--- The answer to a job against whose files no reason stands.
+-- What is told of a job against whose files no reason stands.
 use Rattle.std.proofs.Common.{◌≡◌, ℕ, zero, suc, ◌≤◌, List, [], ◌∷◌, ◌++◌, Contains, length, Option, None, Some, IsSomeAnd, inl, inr, slice_get, map, take, refl, sym, subst, ◌∙◌, arith}
 use Rattle.edge_io.specs.Causes.{Rose}
 use Rattle.edge_io.specs.Folder.{Folder, bytes_named}
 use Rattle.edge_io.specs.declared.files.Files.{Ghosts}
 use Rattle.enhsp_words.specs.Jobs.{job_of}
 use Rattle.enhsp_words.specs.declared.job.Job.{Job}
-use Rattle.run_answers.specs.declared.answers.Answer.{Answer}
 use Rattle.whole_files.specs.Gathered.{AreTexts, IsLarge, IsText}
 use Rattle.whole_files.specs.Seen.{Seen, saw}
 use Rattle.whole_files.specs.declared.wanted.Wanted.{Wanted}
 use Rattle.enhsp_run.specs.Answers.{AnswersBuilt, AnswersJob, AnswersRead, IsAnswer}
-use Rattle.enhsp_run.specs.Answers.AnswersBuilt.{told, missing, too_large}
+use Rattle.enhsp_run.specs.Answers.AnswersBuilt.{read, missing, too_large}
 use Rattle.enhsp_run.specs.Commands.{CommandRules, Entry, entry_of, wanted_file}
 use Rattle.enhsp_run.specs.Commands.Entry.{Built, Unbuilt}
-use Rattle.enhsp_run.specs.Ends.{HasAcceptedTexts, IsAccepted, IsAcceptedBy, statuses_in, statuses_of}
+use Rattle.enhsp_run.specs.Ends.{AreAcceptedTexts, EndsBy, EndsWith, IsAccepted, IsAcceptedBy}
+use Rattle.enhsp_run.specs.Told.{Told}
 use Rattle.enhsp_run.proofs.Laws.{Keeps, KeepsBuilt, keeps}
 
 -- ---- texts of told files
@@ -42,40 +42,40 @@ no_large folder file text is large =
     let same : text ≡ large.0 = cc (is.is_told, large.1) in
     omega (arith, subst (λ (t : List ℕ). length t ≤ file.limit) same is.small, large.2)
 
--- ---- the answer
+-- ---- what is told
 
 -- the files are told, and they are the call's
 abbrev Given : CommandRules → Folder → Job → List (List ℕ) → Type 0
 Given rules folder job texts = AreTexts (Some folder) (map (wanted_file job) rules.files) texts
 
-accepted_built : (rules : CommandRules) (folder : Folder) (fb fa bb ba ma : ℕ) (job : Job) (texts : List (List ℕ)) (answer : Answer) → Keeps rules → Given rules folder job texts → rules.IsAccepted job texts → AnswersBuilt rules (record { told = Some folder; faults_before = fb; faults_after = fa; begun_before = bb; begun_after = ba; mark_after = ma }) job answer → (Rose fb fa → ⊥) → Contains rules.statuses answer.status
-accepted_built rules folder fb fa bb ba ma job texts answer laws given accepted (told ts a are is) calm =
+accepted_built : (rules : CommandRules) (folder : Folder) (fb fa bb ba ma : ℕ) (job : Job) (texts : List (List ℕ)) (told : Told) → Keeps rules → Given rules folder job texts → rules.IsAccepted job texts → AnswersBuilt rules (record { told = Some folder; faults_before = fb; faults_after = fa; begun_before = bb; begun_after = ba; mark_after = ma }) job told → (Rose fb fa → ⊥) → rules.EndsWith job texts told.status
+accepted_built rules folder fb fa bb ba ma job texts told laws given accepted (read ts t are is) calm =
     let same : ts ≡ texts = same_texts folder (map (wanted_file job) rules.files) ts texts are.are_texts given in
-    laws.accepted job texts a accepted (subst (λ (x : List (List ℕ)). rules.IsAnswer job x a) same is)
-accepted_built rules folder fb fa bb ba ma job texts answer laws given accepted (missing k file kth at) calm =
+    laws.accepted job texts t accepted (subst (λ (x : List (List ℕ)). rules.IsAnswer job x t) same is)
+accepted_built rules folder fb fa bb ba ma job texts told laws given accepted (missing k file kth at) calm =
     let there = text_at folder (map (wanted_file job) rules.files) texts k at.file given at.kth in
     elim at.cause [
       | inl rose ↦ absurd (calm (subst (λ (m : ℕ). Rose m fa) at.no_fault_before rose))
       | inr none ↦ absurd (cc (there.1.is_told, none))
     ]
-accepted_built rules folder fb fa bb ba ma job texts answer laws given accepted (too_large k file kth at) calm =
+accepted_built rules folder fb fa bb ba ma job texts told laws given accepted (too_large k file kth at) calm =
     let there = text_at folder (map (wanted_file job) rules.files) texts k at.file given at.kth in
     absurd (no_large folder at.file there.0 there.1 at.large)
 
-accepted_job : (e : Entry) (seen : Seen) (job : Job) (answer : Answer) → KeepsBuilt e → IsAcceptedBy e seen.told job → AnswersJob e seen job answer → (Rose seen.faults_before seen.faults_after → ⊥) → Contains (statuses_in e) answer.status
-accepted_job Unbuilt seen job answer laws accepted is calm = absurd accepted
-accepted_job (Built rules) seen job answer laws accepted is calm =
-    accepted_built rules accepted.folder seen.faults_before seen.faults_after seen.begun_before seen.begun_after seen.mark_after job accepted.texts answer
+accepted_job : (e : Entry) (seen : Seen) (job : Job) (texts : List (List ℕ)) (told : Told) → KeepsBuilt e → IsAcceptedBy e seen.told job texts → AnswersJob e seen job told → (Rose seen.faults_before seen.faults_after → ⊥) → EndsBy e job texts told.status
+accepted_job Unbuilt seen job texts told laws accepted is calm = absurd accepted
+accepted_job (Built rules) seen job texts told laws accepted is calm =
+    accepted_built rules accepted.folder seen.faults_before seen.faults_after seen.begun_before seen.begun_after seen.mark_after job texts told
     laws accepted.are_texts accepted.accepted
-    (subst (λ (told : Option Folder). AnswersBuilt rules (record seen { told = told }) job answer) accepted.is_told is) calm
+    (subst (λ (folder : Option Folder). AnswersBuilt rules (record seen { told = folder }) job told) accepted.is_told is) calm
 
-accepted_answer : (seen : Seen) (words : List (List ℕ)) (job : Job) (answer : Answer) → IsAccepted seen.told words job → IsAnswer seen words answer → (Rose seen.faults_before seen.faults_after → ⊥) → Contains (statuses_of job) answer.status
-accepted_answer seen words job answer accepted is calm =
-    accepted_job (entry_of job.command) seen job answer (keeps job.command) accepted.1
-    (subst (λ (read : Option Job). AnswersRead seen read answer) accepted.0 is) calm
+accepted_told : (seen : Seen) (words : List (List ℕ)) (job : Job) (texts : List (List ℕ)) (told : Told) → IsAccepted seen.told words job texts → IsAnswer seen words told → (Rose seen.faults_before seen.faults_after → ⊥) → EndsWith job texts told.status
+accepted_told seen words job texts told accepted is calm =
+    accepted_job (entry_of job.command) seen job texts told (keeps job.command) accepted.1
+    (subst (λ (read : Option Job). AnswersRead seen read told) accepted.0 is) calm
 
 -- the same of a call, over its files before and after
-pub accepted_call : {F : Type 0} (f : Ghosts F) (before after : F) (words : List (List ℕ)) (job : Job) (answer : Answer) → IsAnswer (saw f before after) words answer → IsAccepted (f.told before) words job → (Rose (f.faults before) (f.faults after) → ⊥) → Contains (statuses_of job) answer.status
+pub accepted_call : {F : Type 0} (f : Ghosts F) (before after : F) (words : List (List ℕ)) (job : Job) (texts : List (List ℕ)) (told : Told) → IsAnswer (saw f before after) words told → IsAccepted (f.told before) words job texts → (Rose (f.faults before) (f.faults after) → ⊥) → EndsWith job texts told.status
 unfolding saw
-accepted_call f before after words job answer is accepted calm =
-    accepted_answer (saw f before after) words job answer accepted is calm
+accepted_call f before after words job texts told is accepted calm =
+    accepted_told (saw f before after) words job texts told accepted is calm

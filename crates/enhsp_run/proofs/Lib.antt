@@ -3,3 +3,5 @@ pub mod Answered
 pub mod Endings
 pub mod Known
 pub mod Laws
+pub mod Searched
+pub mod Sizes

@@ -1,3 +1,6 @@
-pub mod Answers
+pub mod Told
+pub mod Searches
 pub mod Commands
+pub mod Answers
 pub mod Ends
+pub mod Outcomes

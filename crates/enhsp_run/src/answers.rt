@@ -2,15 +2,21 @@
 
 ghost use Rattle.std.specs.Prelude.{◌≡◌, ◌<◌, ◌≤◌, IfOk, OnErr, Some, length, map, option_map, slice_get, string_bytes};
 ghost use Rattle.enhsp_run.specs.Answers.{AnswersJob, AnswersTexts, IsAnswer, file_fault, usage};
-ghost use Rattle.enhsp_run.specs.Commands.{FitFiles, entry_of, files_in, name_in};
+ghost use Rattle.enhsp_run.specs.Commands.{FitFiles, entry_of, files_in, generate_rules, name_in, plan_rules, relax_rules, validate_rules};
+ghost use Rattle.enhsp_run.specs.Outcomes.{CanTell, IsJob, IsMade, IsOutcomeOf};
+ghost use Rattle.pair_text.specs.declared.refusals.Refusal.TheVariants.{TooLarge};
+ghost use Rattle.run_answers.specs.Refused.{refused};
+ghost use Rattle.enhsp_run.specs.declared.outcomes.Outcome.TheVariants.{Written};
 ghost use Rattle.whole_files.specs.Seen.{saw};
 
 use crate::commands::{file_faults, files_of, wanted_files};
+use crate::outcomes::{Form, Outcome};
 use edge_io::Files;
 use enhsp_words::{Command, Job, WordsFault, read_words};
 use num_ends::{List, NoMemory, Text};
-use pair_text::{Refusal, Source};
+use pair_text::{PairFault, Refusal, Source};
 use run_answers::{Answer, refused};
+use search_records::Record;
 use std::alloc::Global;
 use whole_files::{Gathered, read_all};
 
@@ -23,19 +29,75 @@ fn usage(alloc: Global) -> Result<Answer, NoMemory>
     Ok(Answer { status: 5, text })
 }
 
+/// What comes of a search: its record, to be told in this form, or why there is none.
+fn searched(
+    alloc: Global,
+    form: Form,
+    found: Result<Record, PairFault>,
+) -> Result<Outcome, NoMemory>
+    ensures { IfOk result (IsOutcomeOf form found) }
+{
+    match found {
+        Ok(record) => Ok(Outcome::Found(form, record)),
+        Err(PairFault::Refused(refusal)) => Ok(Outcome::Written(refused(alloc, &refusal)?)),
+        Err(PairFault::NoMemory) => Err(NoMemory),
+    }
+}
+
+/// What `plan` answers to these texts.
+fn of_plan(alloc: Global, job: &Job, texts: &[Text]) -> Result<Outcome, NoMemory>
+    requires { FitFiles (Some plan_rules.files) texts.now }
+    ensures { IfOk result (CanTell (plan_rules.IsAnswer job.now texts.now)) }
+{
+    let found = plan_command::search(alloc, texts[0].as_slice(), texts[1].as_slice(), job.limit);
+    searched(alloc, Form::Whole, found)
+}
+
+/// What `relax` answers to these texts.
+fn of_relax(alloc: Global, job: &Job, texts: &[Text]) -> Result<Outcome, NoMemory>
+    requires { FitFiles (Some relax_rules.files) texts.now }
+    ensures { IfOk result (CanTell (relax_rules.IsAnswer job.now texts.now)) }
+{
+    let answer = relax_command::answer(alloc, texts[0].as_slice(), texts[1].as_slice())?;
+    Ok(Outcome::Written(answer))
+}
+
+/// What `validate` answers to these texts.
+fn of_validate(alloc: Global, job: &Job, texts: &[Text]) -> Result<Outcome, NoMemory>
+    requires { FitFiles (Some validate_rules.files) texts.now }
+    ensures { IfOk result (CanTell (validate_rules.IsAnswer job.now texts.now)) }
+{
+    let (domain, problem, plan) = (
+        texts[0].as_slice(),
+        texts[1].as_slice(),
+        texts[2].as_slice(),
+    );
+    let answer = validate_command::answer(alloc, domain, problem, plan)?;
+    Ok(Outcome::Written(answer))
+}
+
+/// What `generate` answers.
+fn of_generate(alloc: Global, job: &Job, texts: &[Text]) -> Result<Outcome, NoMemory>
+    requires texts { FitFiles (Some generate_rules.files) texts.now }
+    requires some { 2 ≤ job.now.size }
+    requires few { job.now.size ≤ 64 }
+    ensures { IfOk result (CanTell (generate_rules.IsAnswer job.now texts.now)) }
+{
+    let found = generate_command::search(alloc, job.size, job.limit);
+    searched(alloc, Form::Summary(job.size), found)
+}
+
 /// What the texts of the files of a job are answered.
-fn of_texts(alloc: Global, job: &Job, texts: &[Text]) -> Result<Answer, NoMemory>
-    requires { FitFiles (files_in (entry_of job.now.command)) texts.now }
-    ensures { IfOk result (AnswersTexts (entry_of job.now.command) job.now texts.now) }
+fn of_texts(alloc: Global, job: &Job, texts: &[Text]) -> Result<Outcome, NoMemory>
+    requires job { IsJob job.now }
+    requires texts { FitFiles (files_in (entry_of job.now.command)) texts.now }
+    ensures { IfOk result (CanTell (AnswersTexts (entry_of job.now.command) job.now texts.now)) }
 {
     match job.command {
-        Command::Relax => relax_command::answer(alloc, texts[0].as_slice(), texts[1].as_slice()),
-        Command::Validate => validate_command::answer(
-            alloc,
-            texts[0].as_slice(),
-            texts[1].as_slice(),
-            texts[2].as_slice(),
-        ),
+        Command::Plan => of_plan(alloc, job, texts),
+        Command::Relax => of_relax(alloc, job, texts),
+        Command::Validate => of_validate(alloc, job, texts),
+        Command::Generate => of_generate(alloc, job, texts),
         _ => unreachable!(),
     }
 }
@@ -49,6 +111,13 @@ fn taken(answers: List<Answer>, place: u32) -> Answer
     answers.swap_remove(place as usize)
 }
 
+/// The answer where a file has more bytes than it may have.
+fn too_large(alloc: Global, file: Source) -> Result<Outcome, NoMemory>
+    ensures { IfOk result (λ outcome. outcome ≡ Written (refused (TooLarge file))) }
+{
+    Ok(Outcome::Written(refused(alloc, &Refusal::TooLarge(file))?))
+}
+
 /// The answer to a job whose command reads these files.
 ///
 /// The answers to files that can't be read are made before one is begun, so that a fault is told even where no memory is left.
@@ -57,28 +126,32 @@ fn of_files<F: Files>(
     job: &Job,
     sources: &[Source],
     files: &mut F,
-) -> Result<Answer, NoMemory>
-    requires { files_in (entry_of job.now.command) ≡ Some sources.now }
-    ensures answer { IfOk result (AnswersJob (entry_of job.now.command) (saw F.Files files.old files.new) job.now) }
+) -> Result<Outcome, NoMemory>
+    requires job { IsJob job.now }
+    requires sources { files_in (entry_of job.now.command) ≡ Some sources.now }
+    ensures answer { IfOk result (CanTell (AnswersJob (entry_of job.now.command) (saw F.Files files.old files.new) job.now)) }
+    ensures made { IfOk result (λ outcome. IsMade outcome → F.faults files.new ≡ F.faults files.old) }
     ensures memory { OnErr result (F.faults files.new ≡ F.faults files.old) }
 {
     let wanted = wanted_files(alloc, job, sources)?;
     let faults = file_faults(alloc, job, sources)?;
     match read_all(alloc, files, wanted.as_slice())? {
         Gathered::Texts(texts) => of_texts(alloc, job, texts.as_slice()),
-        Gathered::Missing(place) => Ok(taken(faults, place)),
-        Gathered::TooLarge(place) => refused(alloc, &Refusal::TooLarge(sources[place as usize])),
+        Gathered::Missing(place) => Ok(Outcome::Written(taken(faults, place))),
+        Gathered::TooLarge(place) => too_large(alloc, sources[place as usize]),
     }
 }
 
 /// The answer to a job. A command that isn't there yet is refused before a file is begun.
-fn of_job<F: Files>(alloc: Global, job: &Job, files: &mut F) -> Result<Answer, NoMemory>
-    ensures answer { IfOk result (AnswersJob (entry_of job.now.command) (saw F.Files files.old files.new) job.now) }
+fn of_job<F: Files>(alloc: Global, job: &Job, files: &mut F) -> Result<Outcome, NoMemory>
+    requires { IsJob job.now }
+    ensures answer { IfOk result (CanTell (AnswersJob (entry_of job.now.command) (saw F.Files files.old files.new) job.now)) }
+    ensures made { IfOk result (λ outcome. IsMade outcome → F.faults files.new ≡ F.faults files.old) }
     ensures memory { OnErr result (F.faults files.new ≡ F.faults files.old) }
 {
     match files_of(job.command) {
         Some(sources) => of_files(alloc, job, sources, files),
-        None => refused(alloc, &Refusal::Unbuilt),
+        None => Ok(Outcome::Written(refused(alloc, &Refusal::Unbuilt)?)),
     }
 }
 
@@ -87,13 +160,14 @@ pub(crate) fn answer<F: Files>(
     alloc: Global,
     words: &[String],
     files: &mut F,
-) -> Result<Answer, NoMemory>
-    ensures answer { IfOk result (IsAnswer (saw F.Files files.old files.new) (map string_bytes words.now)) }
+) -> Result<Outcome, NoMemory>
+    ensures answer { IfOk result (CanTell (IsAnswer (saw F.Files files.old files.new) (map string_bytes words.now))) }
+    ensures made { IfOk result (λ outcome. IsMade outcome → F.faults files.new ≡ F.faults files.old) }
     ensures memory { OnErr result (F.faults files.new ≡ F.faults files.old) }
 {
     match read_words(alloc, words) {
         Err(WordsFault::NoMemory) => Err(NoMemory),
-        Err(WordsFault::Usage) => usage(alloc),
+        Err(WordsFault::Usage) => Ok(Outcome::Written(usage(alloc)?)),
         Ok(job) => of_job(alloc, &job, files),
     }
 }

@@ -12,8 +12,7 @@ use run_answers::Answer;
 use std::alloc::Global;
 use whole_files::Wanted;
 
-/// The most bytes that a file may have.
-const MOST_BYTES: u32 = 1_048_576;
+static NONE: [Source; 0] = [];
 
 static PAIR: [Source; 2] = [Source::Domain, Source::Problem];
 
@@ -24,8 +23,9 @@ pub(crate) fn files_of(command: Command) -> Option<&'static [Source]>
     ensures { option_map (λ files. files.now) result ≡ files_in (entry_of command) }
 {
     match command {
-        Command::Relax => Some(&PAIR),
+        Command::Plan | Command::Relax => Some(&PAIR),
         Command::Validate => Some(&PAIR_AND_PLAN),
+        Command::Generate => Some(&NONE),
         _ => None,
     }
 }
@@ -37,7 +37,17 @@ fn name_in(job: &Job, file: Source) -> &[u8]
     match file {
         Source::Domain => job.domain.as_slice(),
         Source::Problem => job.problem.as_slice(),
-        Source::Plan => job.third.as_slice(),
+        Source::Plan | Source::Certificate => job.third.as_slice(),
+    }
+}
+
+/// The most bytes that a file may have: 1 MiB, and 1 GiB for a certificate.
+fn most_bytes(file: Source) -> u32
+    ensures { result ≡ most_bytes file }
+{
+    match file {
+        Source::Domain | Source::Problem | Source::Plan => 1_048_576,
+        Source::Certificate => 1_073_741_824,
     }
 }
 
@@ -48,7 +58,7 @@ fn wanted_file(alloc: Global, job: &Job, file: Source) -> Result<Wanted, NoMemor
     let name = Text::from_vec(Vec::from_slice(alloc, name_in(job, file))?);
     Ok(Wanted {
         name,
-        limit: MOST_BYTES,
+        limit: most_bytes(file),
     })
 }
 

@@ -3,6 +3,10 @@
 
 mod answers;
 mod commands;
+mod ended;
+mod outcomes;
 mod run;
+mod sending;
 
-pub use run::{Ended, run_alone};
+pub use ended::Ended;
+pub use run::run_alone;

@@ -1,7 +1,7 @@
 //! The lines of refusals.
 
 use num_ends::{List, NoMemory, Text};
-use pair_text::{Place, Reason, Refusal, Source, write_refusal};
+use pair_text::{LineReason, Place, Reason, Refusal, Source, write_refusal};
 use pddl_terms::What;
 use pddl_types::CheckKind;
 use std::alloc::Global;
@@ -28,6 +28,8 @@ fn lines_without_a_place(rt: HostRuntime) -> Result<(), Fail> {
         )
     );
     assert!(rt; is_line(alloc, Refusal::BadLine(2), "REFUSED plan 2 BADLINE\n"));
+    let early = Refusal::InCertificate(7, LineReason::EndsEarly);
+    assert!(rt; is_line(alloc, early, "REFUSED certificate 7 ENDSEARLY\n"));
     assert!(rt; is_line(alloc, Refusal::Unbuilt, "REFUSED UNBUILT\n"));
     let rows = [
         (What::Actions, "REFUSED TOOMANY actions 20000\n"),

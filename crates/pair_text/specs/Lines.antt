@@ -10,6 +10,8 @@ use Rattle.pair_text.specs.declared.refusals.Source.TheVariants as source
 use Rattle.pair_text.specs.declared.refusals.Place.{Place}
 use Rattle.pair_text.specs.declared.refusals.Reason.{Reason}
 use Rattle.pair_text.specs.declared.refusals.Reason.TheVariants as reason
+use Rattle.pair_text.specs.declared.refusals.LineReason.{LineReason}
+use Rattle.pair_text.specs.declared.refusals.LineReason.TheVariants as line_reason
 use Rattle.pair_text.specs.declared.refusals.Refusal.{Refusal}
 use Rattle.pair_text.specs.declared.refusals.Refusal.TheVariants as refusal
 
@@ -17,6 +19,12 @@ abbrev pub source_word : Source → List ℕ
 source_word source.Domain = codes "domain"
 source_word source.Problem = codes "problem"
 source_word source.Plan = codes "plan"
+source_word source.Certificate = codes "certificate"
+
+abbrev pub line_reason_word : LineReason → List ℕ
+line_reason_word line_reason.BadLine = codes "BADLINE"
+line_reason_word line_reason.EndsEarly = codes "ENDSEARLY"
+line_reason_word line_reason.TooMany = codes "TOOMANY"
 
 abbrev pub what_word : What → List ℕ
 what_word what.Objects = codes "objects"
@@ -71,6 +79,7 @@ abbrev pub refusal_words : Refusal → List (List ℕ)
 refusal_words (refusal.TooLarge file) = source_word file ∷ codes "TOOLARGE" ∷ []
 refusal_words (refusal.At file place r) = source_word file ∷ place_word place ∷ reason_words r
 refusal_words (refusal.BadLine line) = codes "plan" ∷ decimal line ∷ codes "BADLINE" ∷ []
+refusal_words (refusal.InCertificate line r) = codes "certificate" ∷ decimal line ∷ line_reason_word r ∷ []
 refusal_words (refusal.Unset text) = codes "UNSET" ∷ text ∷ []
 refusal_words (refusal.Places text) = codes "PLACES" ∷ text ∷ []
 refusal_words (refusal.Range text) = codes "RANGE" ∷ text ∷ []

@@ -12,5 +12,5 @@ mod write;
 pub use laws::texts_have_one_answer;
 pub use pairs::read_pair;
 pub use places::place_of;
-pub use refusals::{PairFault, Place, Reason, Refusal, Source};
+pub use refusals::{LineReason, PairFault, Place, Reason, Refusal, Source};
 pub use write::write_refusal;

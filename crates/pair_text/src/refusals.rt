@@ -10,6 +10,7 @@ pub enum Source {
     Domain,
     Problem,
     Plan,
+    Certificate,
 }
 
 /// A place in a file: line and column from 1. Columns count bytes.
@@ -42,6 +43,17 @@ pub enum Reason {
     Ill(CheckKind, Text),
 }
 
+/// Why a line of a certificate can't be read.
+#[derive(Clone, Copy, Debug, PartialEq, Eq)]
+pub enum LineReason {
+    /// The line isn't one that may stand there.
+    BadLine,
+    /// The text ends before this line, which was to end the certificate.
+    EndsEarly,
+    /// The line of the first box or of the first state past a limit.
+    TooMany,
+}
+
 /// An answer to files that aren't accepted.
 #[derive(Debug, Drop)]
 pub enum Refusal {
@@ -51,6 +63,8 @@ pub enum Refusal {
     At(Source, Place, Reason),
     /// The number of the first line of a plan file that is neither skipped nor a step.
     BadLine(u32),
+    /// The number of the first line at fault of a certificate, and why.
+    InCertificate(u32, LineReason),
     /// A fluent without a first value that an action assigns or that the goal reads.
     Unset(Text),
     /// What needs more places than there are: a fluent, an action, or `goal`.

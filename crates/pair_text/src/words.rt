@@ -1,9 +1,9 @@
 //! The words of refusals.
 
 ghost use Rattle.std.specs.Prelude.{◌≡◌};
-ghost use Rattle.pair_text.specs.Lines.{kind_word, source_word, what_word};
+ghost use Rattle.pair_text.specs.Lines.{kind_word, line_reason_word, source_word, what_word};
 
-use crate::refusals::Source;
+use crate::refusals::{LineReason, Source};
 use pddl_terms::What;
 use pddl_types::CheckKind;
 
@@ -14,6 +14,17 @@ pub(crate) fn source_word(source: Source) -> &'static [u8]
         Source::Domain => b"domain",
         Source::Problem => b"problem",
         Source::Plan => b"plan",
+        Source::Certificate => b"certificate",
+    }
+}
+
+pub(crate) fn line_reason_word(reason: LineReason) -> &'static [u8]
+    ensures { result.now ≡ line_reason_word reason }
+{
+    match reason {
+        LineReason::BadLine => b"BADLINE",
+        LineReason::EndsEarly => b"ENDSEARLY",
+        LineReason::TooMany => b"TOOMANY",
     }
 }
 

@@ -1,10 +1,10 @@
 //! The line of a refusal.
 
 ghost use Rattle.std.specs.Prelude.{◌≡◌, ◌∷◌, ◌++◌, [], ℕ, List, OnOk, OnErr, codes, decimal};
-ghost use Rattle.pair_text.specs.Lines.{kind_word, limit_words, place_word, reason_words, refusal_line, refusal_words, source_word, spaced, told_name};
+ghost use Rattle.pair_text.specs.Lines.{kind_word, limit_words, line_reason_word, place_word, reason_words, refusal_line, refusal_words, source_word, spaced, told_name};
 
-use crate::refusals::{Place, Reason, Refusal, Source};
-use crate::words::{kind_word, source_word, what_word};
+use crate::refusals::{LineReason, Place, Reason, Refusal, Source};
+use crate::words::{kind_word, line_reason_word, source_word, what_word};
 use itoa::Buffer;
 use num_ends::{List, NoMemory};
 use pddl_terms::What;
@@ -95,13 +95,18 @@ fn append_placed(
     append_reason(out, reason)
 }
 
-fn append_bad_line(out: &mut List<u8>, line: u32) -> Result<(), NoMemory>
-    ensures ok { OnOk result (out.new ≡ out.old ++ spaced (codes "plan" ∷ decimal line ∷ codes "BADLINE" ∷ [])) }
+fn append_line_reason(
+    out: &mut List<u8>,
+    source: Source,
+    line: u32,
+    reason: LineReason,
+) -> Result<(), NoMemory>
+    ensures ok { OnOk result (out.new ≡ out.old ++ spaced (source_word source ∷ decimal line ∷ line_reason_word reason ∷ [])) }
     ensures err { OnErr result ((part : List ℕ) × (out.new ≡ out.old ++ part)) }
 {
-    append_word(out, b"plan")?;
+    append_word(out, source_word(source))?;
     append_number(out, line)?;
-    append_word(out, b"BADLINE")
+    append_word(out, line_reason_word(reason))
 }
 
 fn append_refusal(out: &mut List<u8>, refusal: &Refusal) -> Result<(), NoMemory>
@@ -111,7 +116,12 @@ fn append_refusal(out: &mut List<u8>, refusal: &Refusal) -> Result<(), NoMemory>
     match refusal {
         Refusal::TooLarge(source) => append_named(out, source_word(*source), b"TOOLARGE"),
         Refusal::At(source, place, reason) => append_placed(out, *source, *place, reason),
-        Refusal::BadLine(line) => append_bad_line(out, *line),
+        Refusal::BadLine(line) => {
+            append_line_reason(out, Source::Plan, *line, LineReason::BadLine)
+        }
+        Refusal::InCertificate(line, reason) => {
+            append_line_reason(out, Source::Certificate, *line, *reason)
+        }
         Refusal::Unset(text) => append_named(out, b"UNSET", text.as_slice()),
         Refusal::Places(text) => append_named(out, b"PLACES", text.as_slice()),
         Refusal::Range(text) => append_named(out, b"RANGE", text.as_slice()),

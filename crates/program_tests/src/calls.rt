@@ -1,7 +1,7 @@
 //! Calls of the program over files and an output in memory.
 
 use edge_io::{MemoryFiles, MemorySink};
-use enhsp_run::run_alone;
+use enhsp_run::{Ended, run_alone};
 use num_ends::{List, Text};
 use std::alloc::{AllocError, Global};
 use std::test::Fail;
@@ -340,7 +340,7 @@ static CALLS: [(&str, (&str, &str, &str), u8, &str); 48] = [
         0,
         "MET\nbox (x)=[0,inf)\n",
     ),
-    ("plan -o=d.pddl -f=p.pddl", (UP, THREE, ""), 4, UNBUILT),
+    ("optimal -o=d.pddl -f=p.pddl", (UP, THREE, ""), 4, UNBUILT),
     ("expand -o=missing -f=missing", (UP, THREE, ""), 4, UNBUILT),
     (
         "relax -o=d.pddl -f=missing",
@@ -406,7 +406,41 @@ pub(crate) fn folder_of(
     Ok(List::from_vec(all))
 }
 
-/// The status and the bytes of a call, where this call of the files and this write fail.
+/// What a call gave: its status, whether it handed back the record of a search, and the bytes written.
+pub(crate) struct Call {
+    pub(crate) status: u8,
+    pub(crate) has_record: bool,
+    pub(crate) bytes: Vec<u8>,
+}
+
+// The status, and whether there is a record.
+fn end_of(ended: Ended) -> (u8, bool) {
+    (ended.status, ended.found.is_some())
+}
+
+/// What a call gives, where this call of the files and this write fail.
+pub(crate) fn called(
+    alloc: Global,
+    line: &str,
+    folder: List<(Text, Text)>,
+    failing_call: u64,
+    failing_write: u64,
+    room: u32,
+) -> Result<Call, Fail> {
+    let words = words_of(alloc, line)?;
+    let mut files = MemoryFiles::new(folder, List::from_vec(vec![in alloc; failing_call]?));
+    let fails = List::from_vec(vec![in alloc; failing_write]?);
+    let mut sink = MemorySink::new(alloc, room, fails).map_err(|_| AllocError)?;
+    let (status, has_record) = end_of(run_alone(alloc, words.as_slice(), &mut files, &mut sink));
+    let bytes = Vec::from_slice(alloc, sink.bytes())?;
+    Ok(Call {
+        status,
+        has_record,
+        bytes,
+    })
+}
+
+/// The status and the bytes of a call without a search, where this call of the files and this write fail.
 pub(crate) fn outcome(
     alloc: Global,
     line: &str,
@@ -415,12 +449,8 @@ pub(crate) fn outcome(
     failing_write: u64,
     room: u32,
 ) -> Result<(u8, Vec<u8>), Fail> {
-    let words = words_of(alloc, line)?;
-    let mut files = MemoryFiles::new(folder, List::from_vec(vec![in alloc; failing_call]?));
-    let fails = List::from_vec(vec![in alloc; failing_write]?);
-    let mut sink = MemorySink::new(alloc, room, fails).map_err(|_| AllocError)?;
-    let ended = run_alone(alloc, words.as_slice(), &mut files, &mut sink);
-    Ok((ended.status, Vec::from_slice(alloc, sink.bytes())?))
+    let call = called(alloc, line, folder, failing_call, failing_write, room)?;
+    Ok((call.status, call.bytes))
 }
 
 #[test]

@@ -1,29 +1,35 @@
--- A pair whose goal may not hold in the least closed box of its task has no plan.
-use Rattle.std.proofs.Common.{◌≡◌, ℕ, List, Result, Ok, Err, IfOk, false}
+-- Texts whose task's goal may not hold in its least closed box spell a pair without a plan.
+use Rattle.std.proofs.Common.{◌≡◌, ◌≤◌, ◌^◌, ℕ, List, Result, Ok, Err, IfOk, false, length, subst, sym}
 use Rattle.ground_task.specs.Placed.{IsPlaced}
+use Rattle.ground_task.specs.States.{StateValue}
+use Rattle.ground_task.specs.Steps.{IsTaskPlan}
 use Rattle.ground_task.specs.Tasks.{TaskValue, first_state}
-use Rattle.ground_task.proofs.StateNumbers.{first_is_initial}
-use Rattle.ground_meaning.specs.Answers.{IsWholeTask}
-use Rattle.ground_meaning.specs.Worlds.{StandsFor}
-use Rattle.ground_meaning.proofs.PlansBothWays.{pair_plan_forward}
-use Rattle.pddl_meaning.specs.Steps.{IsPlan}
-use Rattle.pddl_types.specs.declared.pairs.Pair.{Pair}
+use Rattle.ground_task.proofs.StateNumbers.{initial_is_first}
+use Rattle.box_model.specs.Boxes.{Contains}
 use Rattle.box_model.specs.Least.{IsDead, IsLeastClosed}
 use Rattle.box_model.specs.declared.state_box.StateBox.{StateBox}
-use Rattle.box_model.proofs.Closed.{no_plan}
+use Rattle.box_model.proofs.Closed as closed
+use Rattle.pair_task.specs.Tasks.{IsTaskOf}
+use Rattle.pair_task.proofs.Tasks as tasks
 use Rattle.run_answers.specs.declared.answers.Answer.{Answer}
-use Rattle.relax_command.specs.Relaxations.{IsRelaxed, IsTaskAnswer, is_met}
+use Rattle.relax_command.specs.Answers.{IsAnswer}
+use Rattle.relax_command.specs.Answers.IsAnswer.{relaxed}
+use Rattle.relax_command.specs.Relaxations.{IsTaskAnswer, is_met}
 
--- a plan of the pair would be one of the task, and the box is dead
-missed : (p : Pair) (t : TaskValue) (b : StateBox) → StandsFor p t → IsPlaced t.raw t.places → IsLeastClosed t (first_state t.raw t.places) b → is_met t b ≡ false → (steps : List (List ℕ × List (List ℕ))) → IsPlan p steps → ⊥
-missed p t b stands placed least misses steps plan =
-    let first = first_state t.raw t.places in
+-- the box is dead, and each initial state is in it
+missed : (t : TaskValue) (b : StateBox) → IsPlaced t.raw t.places → IsLeastClosed t (first_state t.raw t.places) b → is_met t b ≡ false → (numbers : List ℕ) → IsTaskPlan t numbers → ⊥
+missed t b placed least misses numbers plan =
     let dead : IsDead t b = record { a_box = least.a_box; closed = least.closed; misses_goal = misses } in
-    let found = pair_plan_forward p t stands steps plan first (first_is_initial t placed) in
-    no_plan t b dead.a_box dead found.0 first least.contains found.1
+    let first = initial_is_first t plan.0 placed plan.1 in
+    closed.no_plan t b dead.a_box dead numbers plan.0 (subst (λ (s : StateValue). Contains t.places b s) (sym first) least.contains) plan.2
 
--- what is answered of a pair's task is answered of the pair
-pub relaxed_answer : {E : Type 0} (p : Pair) (t : TaskValue) (result : Result Answer E) → IsWholeTask p t → StandsFor p t → IfOk result (IsTaskAnswer t) → IfOk result (IsRelaxed p)
-relaxed_answer p t (Err e) whole stands is = tt
-relaxed_answer p t (Ok answer) whole stands is =
-    record { task = t; whole = whole; answers = is; no_plan = missed p t is.box stands whole.placed is.least }
+-- what is answered of the task of the texts is answered of the texts
+pub relaxed_answer : {E : Type 0} (domain problem : List ℕ) (t : TaskValue) (result : Result Answer E) → length domain ≤ 2 ^ 30 → length problem ≤ 2 ^ 30 → IsTaskOf domain problem t → IfOk result (IsTaskAnswer t) → IfOk result (IsAnswer domain problem)
+relaxed_answer domain problem t (Err e) few fewer task is = tt
+relaxed_answer domain problem t (Ok answer) few fewer task is =
+    relaxed answer (record {
+      task = t;
+      is_task = task;
+      answers = is;
+      no_plan = λ misses. tasks.no_plan domain problem few fewer t task.whole (missed t is.box task.whole.whole.placed is.least misses);
+    })

@@ -1,36 +1,18 @@
 //! The least closed box of a task, and what it says of the goal.
 
-ghost use Rattle.std.specs.Prelude.{◌≡◌, ◌<◌, ◌≤◌, IfErr, IfOk, ⊤};
+ghost use Rattle.std.specs.Prelude.{◌≡◌, IfOk};
 ghost use Rattle.ground_task.specs.Tasks.{first_state};
 ghost use Rattle.box_model.specs.Boxes.{IsBoxOf};
 ghost use Rattle.box_model.specs.Least.{IsLeastClosed};
-ghost use Rattle.pddl_terms.specs.declared.limits.TheConstants.{MAX_SUPPORTERS};
-ghost use Rattle.supporter_count.specs.Counts.{supporter_count};
-ghost use Rattle.relax_command.specs.Faults.{IsTaskFault};
 ghost use Rattle.relax_command.specs.Relaxations.{IsTaskAnswer, box_answer};
 
 use box_model::StateBox;
 use cert_text::write_box;
 use ground_task::Task;
 use num_ends::{List, NoMemory};
-use pair_text::{PairFault, Refusal};
-use pddl_terms::{MAX_SUPPORTERS, What};
 use relax_plain::least_box;
 use run_answers::Answer;
 use std::alloc::Global;
-use supporter_count::supporters;
-
-/// Refuses a task with too many supporters.
-fn check_supporters(alloc: Global, task: &Task) -> Result<(), PairFault>
-    ensures few { IfOk result (λ _. supporter_count task.now ≤ MAX_SUPPORTERS) }
-    ensures fault { IfErr result (IsTaskFault task.now) }
-{
-    let count = supporters(alloc, task)?;
-    if count > MAX_SUPPORTERS {
-        return Err(PairFault::Refused(Refusal::Limit(What::Supporters)));
-    }
-    Ok(())
-}
 
 /// The least closed box above the initial state of a task.
 fn first_box(alloc: Global, task: &Task) -> Result<StateBox, NoMemory>
@@ -56,13 +38,10 @@ fn box_answer(alloc: Global, task: &Task, part: &StateBox) -> Result<Answer, NoM
     Ok(Answer { status, text })
 }
 
-/// What is answered of a task: whether its goal is met or missed in its least closed box, and the line of that box; it is
-/// refused where it has too many supporters.
-pub(crate) fn task_answer(alloc: Global, task: &Task) -> Result<Answer, PairFault>
-    ensures answer { IfOk result (IsTaskAnswer task.now) }
-    ensures fault { IfErr result (IsTaskFault task.now) }
+/// What is answered of a task: whether its goal is met or missed in its least closed box, and the line of that box.
+pub(crate) fn task_answer(alloc: Global, task: &Task) -> Result<Answer, NoMemory>
+    ensures { IfOk result (IsTaskAnswer task.now) }
 {
-    check_supporters(alloc, task)?;
     let part = first_box(alloc, task)?;
-    Ok(box_answer(alloc, task, &part)?)
+    box_answer(alloc, task, &part)
 }

@@ -1,55 +1,36 @@
-use Rattle.std.proofs.Common.{refl, arith}
-use Rattle.enhsp_run.specs.Ends.{statuses_of}
+use Rattle.enhsp_run.specs.Answers.{IsAnswer}
+use Rattle.enhsp_run.specs.Ends.{EndsWith}
+use Rattle.enhsp_run.specs.Outcomes.{Nothing, Tells}
 use Rattle.enhsp_run.proofs.Accepted.{accepted_call}
-use Rattle.enhsp_run.proofs.Endings.{accepted_end, behind, cut_answer, known_end, memory_cut, memory_written, no_eight, sink_failed}
+use Rattle.enhsp_run.proofs.Endings.{ends_by, told_at_sink, told_in_short}
+use Rattle.enhsp_run.proofs.Known.{known}
 use Rattle.enhsp_run.proofs.run.run_alone.Goals as goal
 
-pub returns-in-Ok-clause-known : goal.returns-in-Ok-clause-known
-returns-in-Ok-clause-known g c =
-    known_end _ _ c.in-Ok.answer c.end_with.result.status c.write_whole.result c.in-Ok.ensures.answer c.end_with.ensures
+pub send-requires-clause-small : goal.send-requires-clause-small
+send-requires-clause-small g c = λ told tells. known _ _ told (c.in-Ok.ensures.answer.tells told tells)
 
-pub returns-in-Ok-clause-accepted : goal.returns-in-Ok-clause-accepted
-returns-in-Ok-clause-accepted g c = λ job accepted calm quiet.
-    accepted_end (statuses_of job) c.in-Ok.answer.status c.end_with.result.status c.write_whole.result
-    (g.S.Sink.faults c.args.sink.now) (g.S.Sink.faults c.write_whole.new.sink)
-    (
-    behind 8 (statuses_of job) c.in-Ok.answer.status
-    (accepted_call g.F.Files _ _ _ job c.in-Ok.answer c.in-Ok.ensures.answer accepted calm)
-    )
-    c.end_with.ensures c.write_whole.ensures.cause.failed quiet
+pub returns-in-Ok-clause-ends : goal.returns-in-Ok-clause-ends
+returns-in-Ok-clause-ends g c = λ job texts accepted calm.
+    ends_by (Tells c.in-Ok.outcome) (EndsWith job texts) _ _ _ _ c.send.result c.send.ensures.end
+    (λ told tells. accepted_call g.F.Files _ _ _ job texts told (c.in-Ok.ensures.answer.tells told tells) accepted calm)
 
-pub returns-in-Ok-clause-sink_fault : goal.returns-in-Ok-clause-sink_fault
-returns-in-Ok-clause-sink_fault g c =
-    sink_failed _ _ c.in-Ok.answer c.end_with.result.status c.write_whole.result
-    (g.S.Sink.faults c.args.sink.now) (g.S.Sink.faults c.write_whole.new.sink)
-    c.in-Ok.ensures.answer c.end_with.ensures c.write_whole.ensures.cause.failed
+pub returns-in-Ok-clause-cut : goal.returns-in-Ok-clause-cut
+returns-in-Ok-clause-cut g c = λ seven.
+    told_at_sink (Tells c.in-Ok.outcome) (IsAnswer _ _) _ _ _ c.in-Ok.ensures.answer.tells (c.send.ensures.end.cut seven)
 
 pub returns-in-Ok-clause-no_memory : goal.returns-in-Ok-clause-no_memory
 returns-in-Ok-clause-no_memory g c = λ eight.
-    absurd (no_eight _ _ c.in-Ok.answer c.end_with.result.status c.write_whole.result c.in-Ok.ensures.answer c.end_with.ensures eight)
-
-pub returns-in-Ok-clause-cut : goal.returns-in-Ok-clause-cut
-returns-in-Ok-clause-cut g c =
-    cut_answer _ _ c.in-Ok.answer c.end_with.result.status
-    (g.S.Sink.written c.args.sink.now) (g.S.Sink.written c.write_whole.new.sink) c.write_whole.result
-    c.in-Ok.ensures.answer c.end_with.ensures (rw c.as_slice.ensures at c.write_whole.ensures.bytes)
-
-pub returns-in-Err-clause-accepted : goal.returns-in-Err-clause-accepted
-returns-in-Err-clause-accepted g c = λ job accepted calm quiet.
-    accepted_end (statuses_of job) 8 c.end_with-in-Err.result.status c.write_whole-in-Err.result
-    (g.S.Sink.faults c.args.sink.now) (g.S.Sink.faults c.write_whole-in-Err.new.sink)
-    (0, omega arith, refl) c.end_with-in-Err.ensures c.write_whole-in-Err.ensures.cause.failed quiet
+    let lacks = c.send.ensures.end.no_memory eight in (
+      c.in-Ok.ensures.made (c.send.ensures.made eight),
+      lacks.0,
+      told_in_short (Tells c.in-Ok.outcome) (IsAnswer _ _) _ _ _ c.in-Ok.ensures.answer.tells lacks.1,
+    )
 
 pub returns-in-Err-clause-cut : goal.returns-in-Err-clause-cut
-returns-in-Err-clause-cut g c =
-    memory_cut _ _ c.end_with-in-Err.result.status
-    (g.S.Sink.written c.args.sink.now) (g.S.Sink.written c.write_whole-in-Err.new.sink) c.write_whole-in-Err.result
-    c.end_with-in-Err.ensures c.write_whole-in-Err.ensures.bytes
+returns-in-Err-clause-cut g c = λ seven.
+    told_at_sink Nothing (IsAnswer _ _) _ _ _ (λ told none. absurd none) (c.end_without_memory.ensures.cut seven)
 
 pub returns-in-Err-clause-no_memory : goal.returns-in-Err-clause-no_memory
 returns-in-Err-clause-no_memory g c = λ eight.
-    let written = memory_written c.end_with-in-Err.result.status
-    (g.S.Sink.written c.args.sink.now) (g.S.Sink.written c.write_whole-in-Err.new.sink) c.write_whole-in-Err.result
-    (g.S.Sink.faults c.args.sink.now) (g.S.Sink.faults c.write_whole-in-Err.new.sink)
-    c.end_with-in-Err.ensures c.write_whole-in-Err.ensures.bytes c.write_whole-in-Err.ensures.cause.kept eight in
-    (written.0, c.in-Err.ensures.memory, written.1)
+    let lacks = c.end_without_memory.ensures.no_memory eight in
+    (c.in-Err.ensures.memory, lacks.0, told_in_short Nothing (IsAnswer _ _) _ _ _ (λ told none. absurd none) lacks.1)

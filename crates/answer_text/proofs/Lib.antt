@@ -1,0 +1,11 @@
+pub mod Sends
+pub mod Nonempty
+pub mod Listing
+pub mod Path
+pub mod Order
+pub mod OneOrder
+pub mod Readings
+pub mod Told
+pub mod OneText
+pub mod ShortLines
+pub mod PlainText

@@ -1,0 +1,3 @@
+-- What the contracts of this crate's private functions speak of. No public contract cites it.
+pub mod Held
+pub mod Listed

@@ -1,0 +1,10 @@
+pub mod InParts
+pub mod Numbers
+pub mod InKinds
+pub mod InTasks
+pub mod InLines
+pub mod InTexts
+pub mod InCuts
+pub mod OneFront
+pub mod OneAnswer
+pub mod SomeAnswer

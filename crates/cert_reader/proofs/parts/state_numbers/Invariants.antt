@@ -1,0 +1,6 @@
+use Rattle.cert_reader.specs.Spelling.{fluents_of_state, fluents_of}
+use Rattle.cert_reader.specs.internal.Fronts.{AreRead}
+use Rattle.cert_reader.proofs.parts.state_numbers.Given as goal
+
+abbrev pub invariant-each : goal.invariant-each
+invariant-each l = AreRead fluents_of_state (fluents_of l.task) l.fluent l.line l.numbers l.rest

@@ -1,0 +1,4 @@
+pub mod Answered
+pub mod EachAnswered
+pub mod OneAnswer
+pub mod Tasks
