@@ -1,9 +1,8 @@
 -- What is told of a job against whose files no reason stands.
-use Rattle.std.proofs.Common.{◌≡◌, ℕ, zero, suc, ◌≤◌, List, [], ◌∷◌, ◌++◌, Contains, length, Option, None, Some, IsSomeAnd, inl, inr, slice_get, map, take, refl, sym, subst, ◌∙◌, arith}
+use Rattle.std.proofs.Common.{◌≡◌, ℕ, zero, suc, ◌≤◌, List, [], ◌∷◌, length, Option, Some, inl, inr, slice_get, map, refl, sym, subst, ◌∙◌, arith}
 use Rattle.edge_io.specs.Causes.{Rose}
-use Rattle.edge_io.specs.Folder.{Folder, bytes_named}
+use Rattle.edge_io.specs.Folder.{Folder}
 use Rattle.edge_io.specs.declared.files.Files.{Ghosts}
-use Rattle.enhsp_words.specs.Jobs.{job_of}
 use Rattle.enhsp_words.specs.declared.job.Job.{Job}
 use Rattle.whole_files.specs.Gathered.{AreTexts, IsLarge, IsText}
 use Rattle.whole_files.specs.Seen.{Seen, saw}
@@ -12,7 +11,7 @@ use Rattle.enhsp_run.specs.Answers.{AnswersBuilt, AnswersJob, AnswersRead, IsAns
 use Rattle.enhsp_run.specs.Answers.AnswersBuilt.{read, missing, too_large}
 use Rattle.enhsp_run.specs.Commands.{CommandRules, Entry, entry_of, wanted_file}
 use Rattle.enhsp_run.specs.Commands.Entry.{Built, Unbuilt}
-use Rattle.enhsp_run.specs.Ends.{AreAcceptedTexts, EndsBy, EndsWith, IsAccepted, IsAcceptedBy}
+use Rattle.enhsp_run.specs.Ends.{EndsBy, EndsWith, IsAccepted, IsAcceptedBy}
 use Rattle.enhsp_run.specs.Told.{Told}
 use Rattle.enhsp_run.proofs.Laws.{Keeps, KeepsBuilt, keeps}
 

@@ -1,5 +1,5 @@
 -- From what reading the files of a job gave to what may be told.
-use Rattle.std.proofs.Common.{◌≡◌, ℕ, zero, suc, ◌≤◌, List, [], ◌∷◌, Option, Some, None, Result, Ok, Err, IfOk, OnErr, length, get_or, map, slice_get, refl, sym, subst, ap, ◌∙◌, arith}
+use Rattle.std.proofs.Common.{◌≡◌, ℕ, zero, suc, List, [], ◌∷◌, Option, Some, None, Result, Ok, Err, IfOk, OnErr, get_or, map, slice_get, refl, sym, subst, ap, ◌∙◌, arith}
 use Rattle.std.proofs.lemmas.Option.{get_or_from_slice_get}
 use Rattle.edge_io.specs.declared.files.Files.{Ghosts}
 use Rattle.enhsp_words.specs.Jobs.{job_of}
@@ -13,7 +13,7 @@ use Rattle.whole_files.specs.Seen.{Seen, HasNoFault, ReadsWell, saw}
 use Rattle.whole_files.specs.declared.wanted.Wanted.{Wanted}
 use Rattle.enhsp_run.specs.Answers.{AnswersBuilt, AnswersJob, AnswersRead, AnswersTexts, IsAnswer, file_fault, usage}
 use Rattle.enhsp_run.specs.Answers.AnswersBuilt.{read, missing, too_large}
-use Rattle.enhsp_run.specs.Commands.{CommandRules, Entry, files_in, name_in, wanted_file}
+use Rattle.enhsp_run.specs.Commands.{Entry, files_in, name_in, wanted_file}
 use Rattle.enhsp_run.specs.Commands.Entry.{Built, Unbuilt}
 use Rattle.enhsp_run.specs.Outcomes.{CanTell, IsMade}
 use Rattle.enhsp_run.specs.Told.{Told, plainly}

@@ -1,5 +1,5 @@
 -- How a call ends, over what it may tell and what of it was written.
-use Rattle.std.proofs.Common.{◌≡◌, ◌≢◌, ℕ, ◌<◌, ◌≤◌, ◌⊎◌, take, inl, inr, List, Option, None, Some, MatchResult, Result, Ok, Err, refl, sym, subst, ap, ap₂, ◌∙◌, arith}
+use Rattle.std.proofs.Common.{◌≡◌, ◌≢◌, ℕ, ◌≤◌, ◌⊎◌, take, inl, inr, List, Option, None, Some, MatchResult, Result, Err, refl, sym, subst, ap, ap₂, ◌∙◌, arith}
 use Rattle.std.proofs.lemmas.Bool.{cases_lt}
 use Rattle.std.specs.Io.KnownBytes.{Appends, Keeps}
 use Rattle.answer_text.specs.Sending.{IsAnswerSent, IsCut, IsCutWithin, IsSent, IsSummarySent, IsUnsent, IsUnsentCause}
@@ -8,12 +8,14 @@ use Rattle.answer_text.specs.declared.faults.Unsent.{Unsent}
 use Rattle.answer_text.specs.declared.faults.Unsent.TheVariants as unsent
 use Rattle.edge_io.specs.Causes.{Rose}
 use Rattle.ground_task.specs.Placed.{IsPlaced}
+use Rattle.pair_certificate.specs.declared.readings.TaskCertificate.{TaskCertificate}
 use Rattle.run_answers.specs.declared.answers.Answer.{Answer}
 use Rattle.search_records.proofs.Sound.{sound}
 use Rattle.search_records.specs.Records.{IsLegalRecord, IsSound, answer_in, bounds}
 use Rattle.search_records.specs.declared.record.Record.{Record}
 use Rattle.search_runs.specs.declared.answers.Answer.{Answer as SearchAnswer}
 use Rattle.search_runs.specs.declared.answers.Answer.TheVariants as variant
+use Rattle.upgrade_command.specs.Answers.{upgraded}
 use Rattle.enhsp_run.specs.Ends.{FailsAtSink, LacksMemory, TellsPart, memory_text}
 use Rattle.enhsp_run.specs.Outcomes.{IsEnd, Nothing, Only, Tells, text_in}
 use Rattle.enhsp_run.specs.Told.{IsSummaryOf, TellsRecord, Told, ended, plainly}
@@ -21,7 +23,7 @@ use Rattle.enhsp_run.specs.declared.ended.Ended.{Ended}
 use Rattle.enhsp_run.specs.declared.outcomes.Form.{Form}
 use Rattle.enhsp_run.specs.declared.outcomes.Form.TheVariants.{Whole, Summary}
 use Rattle.enhsp_run.specs.declared.outcomes.Outcome.{Outcome}
-use Rattle.enhsp_run.specs.declared.outcomes.Outcome.TheVariants.{Found, Written}
+use Rattle.enhsp_run.specs.declared.outcomes.Outcome.TheVariants.{Found, Upgraded, Written}
 
 -- ---- what is told
 
@@ -221,6 +223,9 @@ small_written o answer is small = (subst (λ (x : Outcome). (told : Told) → Te
 module _ (o : Outcome) (before after : Option (List ℕ)) (faults now : ℕ) (e : Ended) where
   pub written_end : (answer : Answer) → o ≡ Written answer → IsEnd (Only (plainly answer)) before after faults now e → IsEnd (Tells o) before after faults now e
   written_end answer is ends = subst (λ (x : Outcome). IsEnd (Tells x) before after faults now e) (sym is) ends
+
+  pub upgraded_end : (c : TaskCertificate) → o ≡ Upgraded c → IsEnd (Only (plainly (upgraded c.task c.cert))) before after faults now e → IsEnd (Tells o) before after faults now e
+  upgraded_end c is ends = subst (λ (x : Outcome). IsEnd (Tells x) before after faults now e) (sym is) ends
 
   pub found_end : (form : Form) (r : Record) → o ≡ Found form r → (told : Told) × TellsRecord (text_in form) r told × IsEnd (Only told) before after faults now e → IsEnd (Tells o) before after faults now e
   found_end form r is (told, tells, ends) =

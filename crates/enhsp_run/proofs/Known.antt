@@ -1,5 +1,5 @@
 -- Which statuses may be told, and when the files had no fault.
-use Rattle.std.proofs.Common.{◌≡◌, ℕ, ◌≤◌, List, Option, None, Some, sym, subst, arith}
+use Rattle.std.proofs.Common.{ℕ, ◌≤◌, List, Option, None, Some, sym, subst, arith}
 use Rattle.enhsp_words.specs.Jobs.{job_of}
 use Rattle.enhsp_words.specs.declared.job.Job.{Job}
 use Rattle.pair_text.specs.declared.refusals.Refusal.{Refusal}

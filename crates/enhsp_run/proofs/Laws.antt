@@ -1,14 +1,13 @@
 -- What the rules of each command keep.
-use Rattle.std.proofs.Common.{◌≡◌, ℕ, ◌<◌, ◌≤◌, ◌^◌, zero, suc, List, [], ◌∷◌, Contains, Option, Some, length, get_or, option_map, refl, sym, subst, ap, ◌∙◌, arith}
+use Rattle.std.proofs.Common.{◌≡◌, ℕ, ◌<◌, ◌≤◌, ◌^◌, zero, suc, List, [], ◌∷◌, Contains, Some, length, get_or, option_map, sym, subst, ap, ◌∙◌, arith}
 use Rattle.answer_text.specs.Texts.{IsTextOf, status_of}
-use Rattle.dead_ends.specs.Reachable.{IsDeadState, initial_state}
+use Rattle.certify_command.specs.Answers as certify
+use Rattle.certify_command.proofs.Ends as certify_ends
 use Rattle.enhsp_words.specs.declared.job.Command.{Command}
 use Rattle.enhsp_words.specs.declared.job.Command.TheVariants as command
 use Rattle.enhsp_words.specs.declared.job.Job.{Job}
-use Rattle.ground_task.specs.Tasks.{TaskValue}
 use Rattle.pair_task.proofs.OneAnswer.{no_refusal}
-use Rattle.pair_task.specs.Refusals.{IsRefusal}
-use Rattle.pair_task.specs.Tasks.{IsAccepted, IsTaskOf}
+use Rattle.pair_task.specs.Tasks.{IsAccepted}
 use Rattle.plan_command.proofs.Ends.{dead_ends, room_decides}
 use Rattle.plan_command.specs.Ends as plan
 use Rattle.plan_command.specs.Ends.{HasStatus}
@@ -16,18 +15,19 @@ use Rattle.plan_command.specs.Found.{IsFound, SaysOfPair}
 use Rattle.relax_command.specs.Answers as relax
 use Rattle.relax_command.proofs.Ends as relax_ends
 use Rattle.run_answers.proofs.Statuses.{refused_status}
-use Rattle.search_records.specs.Complete.{HasRoom}
-use Rattle.search_records.specs.Records.{answer_in, bounds}
 use Rattle.search_records.specs.declared.record.Record.{Record}
 use Rattle.search_runs.specs.declared.answers.Answer.{Answer}
 use Rattle.search_runs.specs.declared.answers.Answer.TheVariants as variant
 use Rattle.task_gen.specs.Counters.{domain_text, problem_text}
+use Rattle.upgrade_command.specs.Answers as upgrade
+use Rattle.upgrade_command.proofs.Ends as upgrade_ends
 use Rattle.validate_command.specs.Answers as validate
 use Rattle.validate_command.proofs.Ends as validate_ends
-use Rattle.enhsp_run.specs.Commands.{CommandRules, Entry, Finds, OfNone, OfPair, OfThree, Plainly, entry_of, generate_rules, plan_rules, relax_rules, validate_rules}
+use Rattle.enhsp_run.specs.Certificates.{Certifies}
+use Rattle.enhsp_run.specs.Commands.{CommandRules, Entry, Finds, OfNone, OfPair, OfThree, Plainly, entry_of, generate_rules, plan_rules}
 use Rattle.enhsp_run.specs.Commands.Entry.{Built, Unbuilt}
 use Rattle.enhsp_run.specs.Searches.{Decides, SearchEnds}
-use Rattle.enhsp_run.specs.Told.{IsSummaryOf, TextOf, TellsRecord, TellsSearch, Told, plainly}
+use Rattle.enhsp_run.specs.Told.{IsSummaryOf, TextOf, TellsRecord, Told}
 use Rattle.enhsp_run.specs.Told.TellsSearch.{found, refusal}
 
 -- what is told of texts ends by a verdict, or as a refusal, and what is told of accepted texts as the command's own
@@ -133,6 +133,30 @@ validate_accepted texts told =
     three_only (λ ts. OfThree (λ d p q. Plainly (validate.IsAnswer d p q) told) ts → Contains validate.statuses told.status) validate.IsAccepted texts
     (λ d p q accepted is. subst (λ (t : Told). Contains validate.statuses t.status) (sym is.2) (validate_ends.accepted_status d p q is.0 accepted is.1))
 
+-- what `certify` tells of texts
+abbrev MayCertify : Told → List ℕ → List ℕ → List ℕ → Type 0
+MayCertify told d p c = Plainly (certify.IsAnswer d p c) told × Certifies d p c told.status
+
+certify_known : (texts : List (List ℕ)) (told : Told) → OfThree (MayCertify told) texts → told.status ≤ 4
+certify_known texts told =
+    three_only (λ ts. told.status ≤ 4) (MayCertify told) texts
+    (λ d p c is. subst (λ (t : Told). t.status ≤ 4) (sym is.0.2) (at_most_four is.0.0.status (certify_ends.known_status d p c is.0.0 is.0.1)))
+
+certify_accepted : (texts : List (List ℕ)) (told : Told) → OfThree certify.IsAccepted texts → OfThree (MayCertify told) texts → OfThree (λ d p c. Contains certify.statuses told.status × Certifies d p c told.status) texts
+certify_accepted texts told =
+    three_only (λ ts. OfThree (MayCertify told) ts → OfThree (λ d p c. Contains certify.statuses told.status × Certifies d p c told.status) ts) certify.IsAccepted texts
+    (λ d p c accepted is. (subst (λ (t : Told). Contains certify.statuses t.status) (sym is.0.2) (certify_ends.accepted_status d p c is.0.0 accepted is.0.1), is.1))
+
+upgrade_known : (texts : List (List ℕ)) (told : Told) → OfThree (λ d p c. Plainly (upgrade.IsAnswer d p c) told) texts → told.status ≤ 4
+upgrade_known texts told =
+    three_only (λ ts. told.status ≤ 4) (λ d p c. Plainly (upgrade.IsAnswer d p c) told) texts
+    (λ d p c is. subst (λ (t : Told). t.status ≤ 4) (sym is.2) (at_most_four is.0.status (upgrade_ends.known_status d p c is.0 is.1)))
+
+upgrade_accepted : (texts : List (List ℕ)) (told : Told) → OfThree upgrade.IsAccepted texts → OfThree (λ d p c. Plainly (upgrade.IsAnswer d p c) told) texts → Contains upgrade.statuses told.status
+upgrade_accepted texts told =
+    three_only (λ ts. OfThree (λ d p c. Plainly (upgrade.IsAnswer d p c) told) ts → Contains upgrade.statuses told.status) upgrade.IsAccepted texts
+    (λ d p c accepted is. subst (λ (t : Told). Contains upgrade.statuses t.status) (sym is.2) (upgrade_ends.accepted_status d p c is.0 accepted is.1))
+
 plan_known : (job : Job) (texts : List (List ℕ)) (told : Told) → plan_rules.IsAnswer job texts told → told.status ≤ 4
 plan_known job texts told =
     pair_only (λ ts. told.status ≤ 4) (Finds IsTextOf job.limit told) texts (λ d p is. search_known IsTextOf d p job.limit told is)
@@ -161,8 +185,8 @@ keeps command.Plan = record { known = plan_known; accepted = plan_accepted }
 keeps command.Relax = record { known = λ job. relax_known; accepted = λ job. relax_accepted }
 keeps command.Validate = record { known = λ job. validate_known; accepted = λ job. validate_accepted }
 keeps command.Generate = record { known = generate_known; accepted = generate_accepted }
-keeps command.Certify = tt
-keeps command.Upgrade = tt
+keeps command.Certify = record { known = λ job. certify_known; accepted = λ job. certify_accepted }
+keeps command.Upgrade = record { known = λ job. upgrade_known; accepted = λ job. upgrade_accepted }
 keeps command.Adl = tt
 keeps command.Expand = tt
 keeps command.Optimal = tt

@@ -1,5 +1,6 @@
 pub mod Accepted
 pub mod Answered
+pub mod Certified
 pub mod Endings
 pub mod Known
 pub mod Laws

@@ -1,5 +1,5 @@
 -- From what a search gave to what may be told.
-use Rattle.std.proofs.Common.{◌≡◌, ◌≢◌, ℕ, ◌≤◌, List, [], ◌∷◌, Option, Some, Result, Ok, Err, IfOk, IfErr, length, get_or, sym, subst, refl}
+use Rattle.std.proofs.Common.{◌≡◌, ℕ, List, [], ◌∷◌, Some, Result, Ok, Err, IfOk, IfErr, get_or, sym, subst}
 use Rattle.answer_text.specs.Texts.{HasText}
 use Rattle.enhsp_words.specs.declared.job.Job.{Job}
 use Rattle.generate_command.specs.Generated.{IsGenerated, IsFault as IsSizeFault}
@@ -18,14 +18,14 @@ use Rattle.enhsp_run.specs.Told.TellsSearch.{found, refusal}
 use Rattle.enhsp_run.specs.declared.outcomes.Form.{Form}
 use Rattle.enhsp_run.specs.declared.outcomes.Form.TheVariants.{Whole, Summary}
 use Rattle.enhsp_run.specs.declared.outcomes.Outcome.{Outcome}
-use Rattle.enhsp_run.specs.declared.outcomes.Outcome.TheVariants.{Found, Written}
+use Rattle.enhsp_run.specs.declared.outcomes.Outcome.TheVariants.{Found}
 use Rattle.enhsp_run.proofs.Answered.{written}
 
 -- a search that is told in this form
 abbrev MayFind : Form → ℕ → List ℕ → List ℕ → Told → Type 0
 MayFind form limit d p told = Finds (text_in form) limit told d p
 
-pub of_search : {E : Type 0} (form : Form) (d p : List ℕ) (limit : ℕ) (gave : Result Record PairFault) (result : Result Outcome E) → IfOk gave (IsFound d p limit) → IfOk gave IsLegalRecord → IfOk gave HasText → IfErr gave (IsFault d p) → IfOk result (IsOutcomeOf form gave) → IfOk result (CanTell (MayFind form limit d p))
+pub of_search : {E : Type 0} (form : Form) (d p : List ℕ) (limit : ℕ) (gave : Result Record PairFault) (result : Result Outcome E) → IfOk gave (IsFound d p limit) → IfOk gave IsLegalRecord → IfOk gave HasText → IfErr gave (IsFault d p) → IfOk result (IsOutcomeOf (Found form) gave) → IfOk result (CanTell (MayFind form limit d p))
 of_search form d p limit gave (Err e) is legal has fault outcome = tt
 of_search form d p limit (Ok r) (Ok o) is legal has fault outcome =
     subst (CanTell (MayFind form limit d p)) (sym outcome)
@@ -36,7 +36,7 @@ of_search form d p limit (Err NoMemory) (Ok o) is legal has fault outcome = absu
 
 pub plan_told : {E : Type 0} (job : Job) (texts : List (List ℕ)) (x y d p : List ℕ) (gave : Result Record PairFault) (result : Result Outcome E) → FitFiles (Some plan_rules.files) texts
     → d ≡ get_or texts 0 x → p ≡ get_or texts 1 y
-    → IfOk gave (IsFound d p job.limit) → IfOk gave IsLegalRecord → IfOk gave HasText → IfErr gave (IsFault d p) → IfOk result (IsOutcomeOf Whole gave) → IfOk result (CanTell (plan_rules.IsAnswer job texts))
+    → IfOk gave (IsFound d p job.limit) → IfOk gave IsLegalRecord → IfOk gave HasText → IfErr gave (IsFault d p) → IfOk result (IsOutcomeOf (Found Whole) gave) → IfOk result (CanTell (plan_rules.IsAnswer job texts))
 plan_told job [] x y d p gave result fit first second is legal has fault outcome = absurd fit
 plan_told job (a ∷ []) x y d p gave result fit first second is legal has fault outcome = absurd fit.1
 plan_told job (a ∷ b ∷ []) x y d p gave result fit first second is legal has fault outcome =
@@ -45,7 +45,7 @@ plan_told job (a ∷ b ∷ []) x y d p gave result fit first second is legal has
 plan_told job (a ∷ b ∷ t ∷ ts) x y d p gave result fit first second is legal has fault outcome = absurd fit.1.1
 
 pub generate_told : {E : Type 0} (job : Job) (texts : List (List ℕ)) (gave : Result Record PairFault) (result : Result Outcome E) → FitFiles (Some generate_rules.files) texts
-    → IfOk gave (IsGenerated job.size job.limit) → IfOk gave IsLegalRecord → IfOk gave HasText → IfErr gave (IsSizeFault job.size) → IfOk result (IsOutcomeOf (Summary job.size) gave) → IfOk result (CanTell (generate_rules.IsAnswer job texts))
+    → IfOk gave (IsGenerated job.size job.limit) → IfOk gave IsLegalRecord → IfOk gave HasText → IfErr gave (IsSizeFault job.size) → IfOk result (IsOutcomeOf (Found (Summary job.size)) gave) → IfOk result (CanTell (generate_rules.IsAnswer job texts))
 generate_told job [] gave result fit is legal has fault outcome =
     of_search (Summary job.size) domain_text (problem_text job.size) job.limit gave result is legal has fault outcome
 generate_told job (t ∷ ts) gave result fit is legal has fault outcome = absurd fit

@@ -1,5 +1,5 @@
 -- The size of a job that generates a task.
-use Rattle.std.proofs.Common.{◌≡◌, ℕ, zero, suc, ◌≤◌, List, [], ◌∷◌, slice_get, Bool, true, false, Option, None, Some, codes, is_some, nat_le, cond, refl, sym, subst, ap, ◌∙◌, arith, option_and_then}
+use Rattle.std.proofs.Common.{◌≡◌, ℕ, zero, suc, ◌≤◌, List, [], ◌∷◌, slice_get, Bool, true, false, Option, None, Some, codes, is_some, nat_le, cond, refl, sym, subst, ap, ◌∙◌, option_and_then}
 use Rattle.std.specs.List.{list_all}
 use Rattle.std.proofs.lemmas.Bool.{and_parts, leb-true}
 use Rattle.clap.specs.Walk.{Text}

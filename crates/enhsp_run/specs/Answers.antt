@@ -1,5 +1,5 @@
 -- What a call of the program may tell.
-use Rattle.std.specs.Prelude.{ℕ, ◌≡◌, ◌++◌, List, [], ◌∷◌, Option, Some, None, codes, map, slice_get}
+use Rattle.std.specs.Prelude.{ℕ, ◌≡◌, ◌++◌, List, Option, Some, None, codes, map, slice_get}
 use Rattle.enhsp_words.specs.Jobs.{job_of}
 use Rattle.enhsp_words.specs.declared.job.Job.{Job}
 use Rattle.pair_text.specs.declared.refusals.Source.{Source}

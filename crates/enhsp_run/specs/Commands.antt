@@ -2,6 +2,7 @@
 use Rattle.std.specs.Prelude.{ℕ, ◌≡◌, ◌≤◌, List, [], ◌∷◌, Option, Some, None, Contains, length}
 use Rattle.std.specs.List.{AllZip}
 use Rattle.answer_text.specs.Texts.{IsTextOf}
+use Rattle.certify_command.specs.Answers as certify
 use Rattle.enhsp_words.specs.declared.job.Command.{Command}
 use Rattle.enhsp_words.specs.declared.job.Command.TheVariants as command
 use Rattle.enhsp_words.specs.declared.job.Job.{Job}
@@ -14,7 +15,9 @@ use Rattle.relax_command.specs.Answers as relax
 use Rattle.validate_command.specs.Answers as validate
 use Rattle.run_answers.specs.declared.answers.Answer.{Answer}
 use Rattle.task_gen.specs.Counters.{domain_text, problem_text}
+use Rattle.upgrade_command.specs.Answers as upgrade
 use Rattle.whole_files.specs.declared.wanted.Wanted.{Wanted}
+use Rattle.enhsp_run.specs.Certificates.{Certifies}
 use Rattle.enhsp_run.specs.Searches.{SearchEnds}
 use Rattle.enhsp_run.specs.Told.{TextOf, IsSummaryOf, TellsSearch, Told, plainly}
 
@@ -90,6 +93,24 @@ validate_rules = record {
   EndsWith = λ job texts status. Contains validate.statuses status;
 }
 
+-- status 0 claims that no plan of the pair exists
+abbrev pub certify_rules : CommandRules
+certify_rules = record {
+  files = Domain ∷ Problem ∷ Certificate ∷ [];
+  IsAnswer = λ job texts told. OfThree (λ d p c. Plainly (certify.IsAnswer d p c) told × Certifies d p c told.status) texts;
+  IsAccepted = λ job texts. OfThree certify.IsAccepted texts;
+  EndsWith = λ job texts status. OfThree (λ d p c. Contains certify.statuses status × Certifies d p c status) texts;
+}
+
+-- nothing of the certificate is checked
+abbrev pub upgrade_rules : CommandRules
+upgrade_rules = record {
+  files = Domain ∷ Problem ∷ Certificate ∷ [];
+  IsAnswer = λ job texts told. OfThree (λ d p c. Plainly (upgrade.IsAnswer d p c) told) texts;
+  IsAccepted = λ job texts. OfThree upgrade.IsAccepted texts;
+  EndsWith = λ job texts status. Contains upgrade.statuses status;
+}
+
 -- a search with so many expansions at most is told in this form
 abbrev pub Finds : TextOf → ℕ → Told → List ℕ → List ℕ → Type 0
 Finds IsText limit told domain problem =
@@ -117,8 +138,8 @@ entry_of command.Plan = Built plan_rules
 entry_of command.Relax = Built relax_rules
 entry_of command.Validate = Built validate_rules
 entry_of command.Generate = Built generate_rules
-entry_of command.Certify = Unbuilt
-entry_of command.Upgrade = Unbuilt
+entry_of command.Certify = Built certify_rules
+entry_of command.Upgrade = Built upgrade_rules
 entry_of command.Adl = Unbuilt
 entry_of command.Expand = Unbuilt
 entry_of command.Optimal = Unbuilt

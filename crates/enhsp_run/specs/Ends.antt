@@ -1,5 +1,5 @@
 -- How a call of the program may end.
-use Rattle.std.specs.Prelude.{ℕ, ◌≡◌, ◌≤◌, ◌⊎◌, List, Option, Some, None, codes, map}
+use Rattle.std.specs.Prelude.{ℕ, ◌≡◌, List, Option, Some, None, codes, map}
 use Rattle.std.specs.Io.KnownBytes.{Appends}
 use Rattle.answer_text.specs.Sending.{IsCut, IsCutWithin}
 use Rattle.edge_io.specs.Folder.{Folder}

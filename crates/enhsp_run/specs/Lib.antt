@@ -1,5 +1,6 @@
 pub mod Told
 pub mod Searches
+pub mod Certificates
 pub mod Commands
 pub mod Answers
 pub mod Ends

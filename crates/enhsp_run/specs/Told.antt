@@ -1,6 +1,6 @@
 -- What a call of the program tells.
 use Rattle.std.specs.Prelude.{ℕ, ◌≡◌, List, Option, Some, None}
-use Rattle.answer_text.specs.Texts.{IsTextOf, status_of, summary_line}
+use Rattle.answer_text.specs.Texts.{status_of, summary_line}
 use Rattle.pair_text.specs.declared.refusals.Refusal.{Refusal}
 use Rattle.run_answers.specs.Refused.{refused}
 use Rattle.run_answers.specs.declared.answers.Answer as plain

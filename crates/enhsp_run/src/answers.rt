@@ -2,18 +2,20 @@
 
 ghost use Rattle.std.specs.Prelude.{◌≡◌, ◌<◌, ◌≤◌, IfOk, OnErr, Some, length, map, option_map, slice_get, string_bytes};
 ghost use Rattle.enhsp_run.specs.Answers.{AnswersJob, AnswersTexts, IsAnswer, file_fault, usage};
-ghost use Rattle.enhsp_run.specs.Commands.{FitFiles, entry_of, files_in, generate_rules, name_in, plan_rules, relax_rules, validate_rules};
-ghost use Rattle.enhsp_run.specs.Outcomes.{CanTell, IsJob, IsMade, IsOutcomeOf};
+ghost use Rattle.enhsp_run.specs.Commands.{FitFiles, certify_rules, entry_of, files_in, generate_rules, name_in, plan_rules, relax_rules, upgrade_rules, validate_rules};
+ghost use Rattle.enhsp_run.specs.Outcomes.{CanTell, IsFaultOutcome, IsJob, IsMade, IsOutcomeOf};
 ghost use Rattle.pair_text.specs.declared.refusals.Refusal.TheVariants.{TooLarge};
 ghost use Rattle.run_answers.specs.Refused.{refused};
-ghost use Rattle.enhsp_run.specs.declared.outcomes.Outcome.TheVariants.{Written};
+ghost use Rattle.enhsp_run.specs.declared.outcomes.Outcome.TheVariants.{Found, Upgraded, Written};
 ghost use Rattle.whole_files.specs.Seen.{saw};
 
 use crate::commands::{file_faults, files_of, wanted_files};
 use crate::outcomes::{Form, Outcome};
+use certify_command::good_certificates_are_certified;
 use edge_io::Files;
 use enhsp_words::{Command, Job, WordsFault, read_words};
 use num_ends::{List, NoMemory, Text};
+use pair_certificate::TaskCertificate;
 use pair_text::{PairFault, Refusal, Source};
 use run_answers::{Answer, refused};
 use search_records::Record;
@@ -29,18 +31,37 @@ fn usage(alloc: Global) -> Result<Answer, NoMemory>
     Ok(Answer { status: 5, text })
 }
 
+/// What comes of a fault: the refusal that it is.
+fn faulted(alloc: Global, fault: PairFault) -> Result<Outcome, NoMemory>
+    ensures { IfOk result (IsFaultOutcome fault) }
+{
+    match fault {
+        PairFault::Refused(refusal) => Ok(Outcome::Written(refused(alloc, &refusal)?)),
+        PairFault::NoMemory => Err(NoMemory),
+    }
+}
+
 /// What comes of a search: its record, to be told in this form, or why there is none.
 fn searched(
     alloc: Global,
     form: Form,
     found: Result<Record, PairFault>,
 ) -> Result<Outcome, NoMemory>
-    ensures { IfOk result (IsOutcomeOf form found) }
+    ensures { IfOk result (IsOutcomeOf (Found form) found) }
 {
     match found {
         Ok(record) => Ok(Outcome::Found(form, record)),
-        Err(PairFault::Refused(refusal)) => Ok(Outcome::Written(refused(alloc, &refusal)?)),
-        Err(PairFault::NoMemory) => Err(NoMemory),
+        Err(fault) => faulted(alloc, fault),
+    }
+}
+
+/// What comes of a certificate: its text in version 2, or why there is none.
+fn upgraded(alloc: Global, read: Result<TaskCertificate, PairFault>) -> Result<Outcome, NoMemory>
+    ensures { IfOk result (IsOutcomeOf Upgraded read) }
+{
+    match read {
+        Ok(certificate) => Ok(Outcome::Upgraded(certificate)),
+        Err(fault) => faulted(alloc, fault),
     }
 }
 
@@ -76,6 +97,35 @@ fn of_validate(alloc: Global, job: &Job, texts: &[Text]) -> Result<Outcome, NoMe
     Ok(Outcome::Written(answer))
 }
 
+/// What `certify` answers to these texts.
+fn of_certify(alloc: Global, job: &Job, texts: &[Text]) -> Result<Outcome, NoMemory>
+    requires { FitFiles (Some certify_rules.files) texts.now }
+    ensures { IfOk result (CanTell (certify_rules.IsAnswer job.now texts.now)) }
+{
+    good_certificates_are_certified();
+    let (domain, problem, certificate) = (
+        texts[0].as_slice(),
+        texts[1].as_slice(),
+        texts[2].as_slice(),
+    );
+    let answer = certify_command::answer(alloc, domain, problem, certificate)?;
+    Ok(Outcome::Written(answer))
+}
+
+/// What `upgrade` answers to these texts.
+fn of_upgrade(alloc: Global, job: &Job, texts: &[Text]) -> Result<Outcome, NoMemory>
+    requires { FitFiles (Some upgrade_rules.files) texts.now }
+    ensures { IfOk result (CanTell (upgrade_rules.IsAnswer job.now texts.now)) }
+{
+    let (domain, problem, certificate) = (
+        texts[0].as_slice(),
+        texts[1].as_slice(),
+        texts[2].as_slice(),
+    );
+    let read = upgrade_command::read(alloc, domain, problem, certificate);
+    upgraded(alloc, read)
+}
+
 /// What `generate` answers.
 fn of_generate(alloc: Global, job: &Job, texts: &[Text]) -> Result<Outcome, NoMemory>
     requires texts { FitFiles (Some generate_rules.files) texts.now }
@@ -97,6 +147,8 @@ fn of_texts(alloc: Global, job: &Job, texts: &[Text]) -> Result<Outcome, NoMemor
         Command::Plan => of_plan(alloc, job, texts),
         Command::Relax => of_relax(alloc, job, texts),
         Command::Validate => of_validate(alloc, job, texts),
+        Command::Certify => of_certify(alloc, job, texts),
+        Command::Upgrade => of_upgrade(alloc, job, texts),
         Command::Generate => of_generate(alloc, job, texts),
         _ => unreachable!(),
     }

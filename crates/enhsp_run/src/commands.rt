@@ -18,6 +18,8 @@ static PAIR: [Source; 2] = [Source::Domain, Source::Problem];
 
 static PAIR_AND_PLAN: [Source; 3] = [Source::Domain, Source::Problem, Source::Plan];
 
+static PAIR_AND_CERTIFICATE: [Source; 3] = [Source::Domain, Source::Problem, Source::Certificate];
+
 /// The files that a command reads, in their order; `None` where it isn't there yet.
 pub(crate) fn files_of(command: Command) -> Option<&'static [Source]>
     ensures { option_map (λ files. files.now) result ≡ files_in (entry_of command) }
@@ -25,6 +27,7 @@ pub(crate) fn files_of(command: Command) -> Option<&'static [Source]>
     match command {
         Command::Plan | Command::Relax => Some(&PAIR),
         Command::Validate => Some(&PAIR_AND_PLAN),
+        Command::Certify | Command::Upgrade => Some(&PAIR_AND_CERTIFICATE),
         Command::Generate => Some(&NONE),
         _ => None,
     }

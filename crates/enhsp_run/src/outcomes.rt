@@ -1,5 +1,6 @@
 //! What is found out for an answer, before it is written.
 
+use pair_certificate::TaskCertificate;
 use run_answers::Answer;
 use search_records::Record;
 
@@ -19,4 +20,6 @@ pub(crate) enum Outcome {
     Written(Answer),
     /// The record of a search, whose text is made as it is written.
     Found(Form, Record),
+    /// A certificate, whose text in version 2 is made as it is written.
+    Upgraded(TaskCertificate),
 }

@@ -2,16 +2,18 @@
 
 ghost use Rattle.std.specs.Prelude.{◌≡◌, ◌≤◌, ℕ, List, Option, None, Some, MatchResult};
 ghost use Rattle.answer_text.specs.Sending.{IsSent, IsUnsentCause};
-ghost use Rattle.answer_text.specs.Texts.{HasText, status_of};
+ghost use Rattle.answer_text.specs.Texts.{HasText, IsCertOf, status_of};
 ghost use Rattle.search_records.specs.Records.{IsLegalRecord, answer_in};
 ghost use Rattle.search_runs.specs.declared.answers.Answer.{Answer as SearchAnswer};
+ghost use Rattle.upgrade_command.specs.Answers.{upgraded};
 ghost use Rattle.enhsp_run.specs.Outcomes.{CanBeSent, IsEnd, IsMade, Nothing, Only, Tells, text_in};
 ghost use Rattle.enhsp_run.specs.Told.{TellsRecord, Told, plainly};
 
 use crate::ended::Ended;
 use crate::outcomes::{Form, Outcome};
-use answer_text::{Unsent, send_answer, send_summary, status_of};
+use answer_text::{Unsent, send_answer, send_summary, send_upgrade, status_of};
 use edge_io::{Failed, Sink, write_whole};
+use pair_certificate::TaskCertificate;
 use run_answers::Answer;
 use search_records::Record;
 use std::alloc::Global;
@@ -130,6 +132,17 @@ fn send_found<S: Sink>(alloc: Global, form: Form, found: Record, sink: &mut S) -
     end_sent(status, Some(found), sent, sink)
 }
 
+/// Sends the text of a certificate in version 2, and ends with status 0.
+fn send_upgraded<S: Sink>(alloc: Global, read: TaskCertificate, sink: &mut S) -> Ended
+    requires cert { IsCertOf read.task read.cert }
+    ensures { IsEnd (Only (plainly (upgraded read.task read.cert)))
+        (S.written sink.old) (S.written sink.new) (S.faults sink.old) (S.faults sink.new) result }
+{
+    let sent = send_upgrade(alloc, &read.task, &read.cert, sink);
+    read.discard();
+    end_sent(0, None, sent, sink)
+}
+
 /// Writes what an outcome tells, and ends with its status.
 pub(crate) fn send<S: Sink>(alloc: Global, outcome: Outcome, sink: &mut S) -> Ended
     requires sent { CanBeSent outcome }
@@ -140,5 +153,6 @@ pub(crate) fn send<S: Sink>(alloc: Global, outcome: Outcome, sink: &mut S) -> En
     match outcome {
         Outcome::Written(answer) => send_written(&answer, sink),
         Outcome::Found(form, found) => send_found(alloc, form, found, sink),
+        Outcome::Upgraded(read) => send_upgraded(alloc, read, sink),
     }
 }

@@ -407,6 +407,7 @@ pub(crate) fn folder_of(
 }
 
 /// What a call gave: its status, whether it handed back the record of a search, and the bytes written.
+#[derive(Drop)]
 pub(crate) struct Call {
     pub(crate) status: u8,
     pub(crate) has_record: bool,

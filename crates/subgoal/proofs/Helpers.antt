@@ -17,7 +17,7 @@ use Rattle.simple_atoms.specs.Forms.{linear_form}
 use Rattle.subgoal.specs.declared.leaves.Leaf.{Leaf}
 use Rattle.subgoal.specs.declared.unmet.Unmet.{Unmet}
 use Rattle.subgoal.specs.declared.unmet.Unmet.TheVariants.{Literal}
-use Rattle.subgoal.specs.Unmet.{help_of}
+use Rattle.subgoal.specs.Unmet.{help_by_value, help_of}
 use Rattle.ground_task.specs.Steps.{change_of}
 use Rattle.simple_atoms.specs.declared.linear.Linear.{Linear}
 use Rattle.simple_atoms.specs.declared.linear.TheConstants.{FAR}
@@ -27,36 +27,56 @@ use Rattle.simple_atoms.specs.Repetitions.{repetitions, sizes_of, steps_of}
 use Rattle.simple_atoms.specs.Values.{form_value, gain_of, growth, growth_by, weighted}
 use Rattle.subgoal.specs.Equations.{Help, atom_value, least_of, least_reached, reached_by}
 use Rattle.subgoal.specs.Help.{changes, help_by_form, help_by_gain, help_by_reads, literal_help, makes, once_where, reads_of, valued_form}
-use Rattle.subgoal.specs.Leaves.{changes_form, comparison_leaf, literal_leaf, may_help, numbers_of, reached_at, reached_in}
+use Rattle.subgoal.specs.Leaves.{changes_form, comparison_leaf, gain_at, gains_by, literal_leaf, may_help, numbers_of, reached_at, reached_in}
 use Rattle.simple_atoms.proofs.Ring.{zero_same}
 use Rattle.std.proofs.Math.IntN.{*ℤ-zero}
+use Rattle.subgoal.proofs.LeafLists.{mapped_long}
 use Rattle.subgoal.proofs.Uniqueness.{least_reached_near}
 
 -- ---- what one action reaches
 
-pub reached_known : (help : Help) (actions : List Ground) (values : List ℕ) (i : ℕ) (a other : Ground) (n another : ℕ) → i < length actions → i < length values
+reached_known : (help : Help) (actions : List Ground) (values : List ℕ) (i : ℕ) (a other : Ground) (n another : ℕ) → i < length actions → i < length values
     → a ≡ get_or actions i other → n ≡ get_or values i another → reached_by (help a) n ≡ reached_at help actions values i
 reached_known help actions values i a other n another within within_too is also =
     ap₂ (λ (b : Ground) (m : ℕ). reached_in help (Some b) (Some m)) is also
     ∙ sym (ap₂ (reached_in help) (slice_get-get_or actions i other within) (slice_get-get_or values i another within_too))
 
-pub reached_unknown : (help : Help) (actions : List Ground) (values : List ℕ) (i : ℕ) → length actions ≤ i → FAR ≡ reached_at help actions values i
+reached_unknown : (help : Help) (actions : List Ground) (values : List ℕ) (i : ℕ) → length actions ≤ i → FAR ≡ reached_at help actions values i
 reached_unknown help actions values i past = sym (ap (λ (a : Option Ground). reached_in help a (slice_get values i)) (slice_get_past actions i past))
 
-far_by : (m : Option ℕ) (n : ℕ) → FAR ≤ n → FAR ≡ reached_by m n
-far_by None n far = refl
-far_by (Some m) n far = omega (arith, far)
+far_by : (m : Option ℕ) (least n : ℕ) → least ≤ FAR → least ≤ n → least ≡ min least (reached_by m n)
+far_by None least n near far = omega (arith, near)
+far_by (Some m) least n near far = omega (arith, near, far)
 
-far_in : (help : Help) (a : Option Ground) (m : Option ℕ) → ((n : ℕ) → m ≡ Some n → FAR ≤ n) → FAR ≡ reached_in help a m
-far_in help None m far = refl
-far_in help (Some a) None far = refl
-far_in help (Some a) (Some n) far = far_by (help a) n (far n refl)
+far_in : (help : Help) (a : Option Ground) (m : Option ℕ) (least : ℕ) → least ≤ FAR → ((n : ℕ) → m ≡ Some n → least ≤ n) → least ≡ min least (reached_in help a m)
+far_in help None m least near far = omega (arith, near)
+far_in help (Some a) None least near far = omega (arith, near)
+far_in help (Some a) (Some n) least near far = far_by (help a) least n near (far n refl)
 
--- behind a value of FAR nothing is nearer
-pub reached_far : (help : Help) (actions : List Ground) (values : List ℕ) (i n another : ℕ) → n ≡ get_or values i another → FAR ≤ n → i < length values
-    → FAR ≡ reached_at help actions values i
-reached_far help actions values i n another is far within =
-    far_in help (slice_get actions i) (slice_get values i) (λ m e. omega (arith, far, is, get_or_from_slice_get values i m another e))
+pub lowered_known : (help : Help) (actions : List Ground) (values : List ℕ) (i : ℕ) (a other : Ground) (n another least m : ℕ) → i < length actions → i < length values
+    → a ≡ get_or actions i other → n ≡ get_or values i another → m ≡ reached_by (help a) n → min least m ≡ min least (reached_at help actions values i)
+lowered_known help actions values i a other n another least m within within_too is also its =
+    ap (λ (k : ℕ). min least k) (its ∙ reached_known help actions values i a other n another within within_too is also)
+
+pub lowered_by_gain : (f : Linear) (value : Decimal) (gain : Option Decimal) (actions : List Ground) (values : List ℕ) (i : ℕ) (a other : Ground) (n another least m : ℕ)
+    → i < length actions → i < length values → a ≡ get_or actions i other → n ≡ get_or values i another → gain ≡ gain_at actions f i
+    → m ≡ reached_by (help_by_gain f value a gain) n → min least m ≡ min least (reached_at (help_by_value f value) actions values i)
+lowered_by_gain f value gain actions values i a other n another least m within within_too is also has its =
+    let there : slice_get actions i ≡ Some a = slice_get-get_or actions i other within ∙ ap Some (sym is) in
+    let same : gain ≡ gain_of f a = has ∙ ap (option_and_then (gain_of f)) there in
+    lowered_known (help_by_value f value) actions values i a other n another least m within within_too is also
+    (its ∙ ap (λ (g : Option Decimal). reached_by (help_by_gain f value a g) n) same)
+
+pub lowered_unknown : (help : Help) (actions : List Ground) (values : List ℕ) (i least : ℕ) → length actions ≤ i → least ≤ FAR → least ≡ min least (reached_at help actions values i)
+lowered_unknown help actions values i least past near =
+    let same : least ≡ min least FAR = omega (arith, near) in
+    same ∙ ap (λ (k : ℕ). min least k) (reached_unknown help actions values i past)
+
+-- behind a value that isn't less nothing is nearer
+pub lowered_passed : (help : Help) (actions : List Ground) (values : List ℕ) (i n another least : ℕ) → n ≡ get_or values i another → least ≤ n → least ≤ FAR
+    → least ≡ min least (reached_at help actions values i)
+lowered_passed help actions values i n another least is far near =
+    far_in help (slice_get actions i) (slice_get values i) least near (λ m e. omega (arith, far, is, get_or_from_slice_get values i m another e))
 
 -- ---- the numbers of those that may help
 
@@ -222,3 +242,39 @@ module _ (actions : List Ground) (values : List ℕ) (long : length values ≡ l
       h ∙ ap₂ (λ (l : Leaf) (g : Help). least_of (map (reached_at g actions values) l.helpers)) is its
       ∙ least_over_helpers (help_by_form left right (valued_form places s r left right)) (may_help left right (linear_form r left right))
       (comparison_covers places s left right (linear_form r left right)) actions values long
+
+  form_is : (r : Rel) (left right : GExpr) (form : Option Linear) → leaf ≡ comparison_leaf actions r left right → leaf.form ≡ form → linear_form r left right ≡ form
+  form_is r left right form is e = sym (ap (λ (l : Leaf). l.form) is) ∙ e
+
+  valued_is : (places : List ℕ) (s : StateValue) (r : Rel) (left right : GExpr) (f : Linear) (value : Option Decimal) → leaf ≡ comparison_leaf actions r left right
+      → leaf.form ≡ Some f → form_value places s f ≡ value → help_by_form left right (option_map (λ v. (f, v)) value) ≡ help_by_form left right (valued_form places s r left right)
+  valued_is places s r left right f value is e its =
+      ap (λ (v : Option Decimal). help_by_form left right (option_map (λ w. (f, w)) v)) (sym its)
+      ∙ ap (λ (form : Option Linear). help_by_form left right (option_and_then (λ g. option_map (λ w. (g, w)) (form_value places s g)) form)) (sym (form_is r left right (Some f) is e))
+
+  pub valued_least : (places : List ℕ) (s : StateValue) (r : Rel) (left right : GExpr) (f : Linear) (v : Decimal) (n : ℕ) → leaf ≡ comparison_leaf actions r left right
+      → leaf.form ≡ Some f → form_value places s f ≡ Some v
+      → n ≡ least_of (map (reached_at (help_by_value f v) actions values) leaf.helpers) → n ≡ least_reached (help_by_form left right (valued_form places s r left right)) actions values
+  valued_least places s r left right f v n is e its h =
+      form_least places s r left right (help_by_value f v) n is (valued_is places s r left right f (Some v) is e its) h
+
+  pub unvalued_least : (places : List ℕ) (s : StateValue) (r : Rel) (left right : GExpr) (f : Linear) (n : ℕ) → leaf ≡ comparison_leaf actions r left right
+      → leaf.form ≡ Some f → form_value places s f ≡ None
+      → n ≡ least_of (map (reached_at (help_by_reads left right) actions values) leaf.helpers) → n ≡ least_reached (help_by_form left right (valued_form places s r left right)) actions values
+  unvalued_least places s r left right f n is e its h =
+      form_least places s r left right (help_by_reads left right) n is (valued_is places s r left right f None is e its) h
+
+  pub formless_least : (places : List ℕ) (s : StateValue) (r : Rel) (left right : GExpr) (n : ℕ) → leaf ≡ comparison_leaf actions r left right
+      → leaf.form ≡ None
+      → n ≡ least_of (map (reached_at (help_by_reads left right) actions values) leaf.helpers) → n ≡ least_reached (help_by_form left right (valued_form places s r left right)) actions values
+  formless_least places s r left right n is e h =
+      form_least places s r left right (help_by_reads left right) n is
+      (ap (λ (form : Option Linear). help_by_form left right (option_and_then (λ g. option_map (λ w. (g, w)) (form_value places s g)) form)) (sym (form_is r left right None is e))) h
+
+  pub gains_known : (r : Rel) (left right : GExpr) (f : Linear) → leaf ≡ comparison_leaf actions r left right → leaf.form ≡ Some f → leaf.gains ≡ map (gain_at actions f) leaf.helpers
+  gains_known r left right f is e =
+      ap (λ (l : Leaf). l.gains) is ∙ ap (λ (form : Option Linear). gains_by actions form (numbers_of (may_help left right (linear_form r left right)) 0 actions)) (form_is r left right (Some f) is e)
+      ∙ ap (λ (l : Leaf). map (gain_at actions f) l.helpers) (sym is)
+
+  pub gains_long : (r : Rel) (left right : GExpr) (f : Linear) → leaf ≡ comparison_leaf actions r left right → leaf.form ≡ Some f → length leaf.gains ≡ length leaf.helpers
+  gains_long r left right f is e = mapped_long (gain_at actions f) leaf.helpers leaf.gains (gains_known r left right f is e)

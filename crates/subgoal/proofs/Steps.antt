@@ -1,5 +1,5 @@
 -- Steps of the loops over actions.
-use Rattle.std.proofs.Common.{◌≡◌, ℕ, suc, ◌+◌, ◌<◌, ◌≤◌, List, [], ◌∷◌, length, drop, get_or, map, min, sym, ap, ap₂, ◌∙◌, arith, drop-cons}
+use Rattle.std.proofs.Common.{◌≡◌, ℕ, suc, ◌+◌, ◌<◌, ◌≤◌, List, [], ◌∷◌, length, drop, get_or, map, min, refl, sym, ap, ap₂, ◌∙◌, arith, drop-cons}
 use Rattle.std.proofs.lemmas.List.{drop_all}
 use Rattle.simple_atoms.specs.declared.linear.TheConstants.{FAR}
 use Rattle.subgoal.specs.Equations.{least_of}
@@ -22,6 +22,13 @@ module _ {X : Type 0} (f : X → ℕ) (xs : List X) (i : ℕ) where
       min_order least n (least_of (map f (drop (i + 1) xs)))
       ∙ ap (λ (m : ℕ). min least (min m (least_of (map f (drop (i + 1) xs))))) its
       ∙ ap (λ (ys : List X). min least (least_of (map f ys))) (sym (next xs i x other within is))
+
+  pub any_lowered : (x other : X) (n least : ℕ) → i < length xs → x ≡ get_or xs i other → n ≡ min least (f x)
+      → min n (least_of (map f (drop (i + 1) xs))) ≡ min least (least_of (map f (drop i xs)))
+  unfolding least_of
+  any_lowered x other n least within is its =
+      ap (λ (m : ℕ). min m (least_of (map f (drop (i + 1) xs)))) its
+      ∙ any_next x other (f x) least within is refl
 
   pub any_end : (least : ℕ) → length xs ≤ i → least ≤ FAR → least ≡ min least (least_of (map f (drop i xs)))
   unfolding least_of

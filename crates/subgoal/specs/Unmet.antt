@@ -3,10 +3,12 @@ use Rattle.std.specs.Prelude.{ℕ, ◌≡◌, ◌≤◌, ◌<◌, List, Bool, tr
 use Rattle.ground_task.specs.declared.raw.GCond.{GCond}
 use Rattle.ground_task.specs.declared.raw.Ground.{Ground}
 use Rattle.ground_task.specs.Tasks.{IsStateOf}
+use Rattle.num_ends.specs.Decimal.{Decimal}
+use Rattle.simple_atoms.specs.declared.linear.Linear.{Linear}
 use Rattle.simple_atoms.specs.Values.{gain_of}
 use Rattle.subgoal.specs.declared.atoms.View.{View}
 use Rattle.subgoal.specs.declared.unmet.Unmet.{Unmet}
-use Rattle.subgoal.specs.declared.unmet.Unmet.TheVariants.{Literal, Reads, Form}
+use Rattle.subgoal.specs.declared.unmet.Unmet.TheVariants.{Literal, Reads}
 use Rattle.subgoal.specs.Equations.{Atoms, Help, condition_value, values_by, Solves}
 use Rattle.subgoal.specs.Help.{atoms_in, help_by_gain, help_by_reads, makes, once_where}
 
@@ -14,7 +16,10 @@ use Rattle.subgoal.specs.Help.{atoms_in, help_by_gain, help_by_reads, makes, onc
 abbrev pub help_of : Unmet → Help
 help_of (Literal f truth) = λ a. once_where (makes f truth a)
 help_of (Reads left right) = help_by_reads left.now right.now
-help_of (Form f value) = λ a. help_by_gain f.now value a (gain_of f.now a)
+
+-- how the actions help a comparison with a form that has this value
+abbrev pub help_by_value : Linear → Decimal → Help
+help_by_value f value = λ a. help_by_gain f value a (gain_of f a)
 
 -- a state of the task, and a value for each action
 pub record IsRight (view : View) : Type 0 where

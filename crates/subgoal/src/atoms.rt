@@ -1,21 +1,28 @@
 //! The values of literals and comparisons.
 
-ghost use Rattle.std.specs.Prelude.{◌≡◌, ◌<◌, length, map};
+ghost use Rattle.std.specs.Prelude.{◌≡◌, ◌<◌, ◌≤◌, length, map, min};
+ghost use Rattle.simple_atoms.specs.declared.linear.TheConstants.{FAR};
 ghost use Rattle.ground_task.specs.Meaning.{fact_value, has_truth};
-ghost use Rattle.ground_task.specs.declared.raw.Rel.{Rel};
-ghost use Rattle.simple_atoms.specs.Forms.{linear_form};
 ghost use Rattle.subgoal.specs.declared.unmet.Unmet.{Unmet};
-ghost use Rattle.subgoal.specs.Equations.{atom_value, least_of, reached_by};
+ghost use Rattle.subgoal.specs.Equations.{atom_value, least_of, least_reached, reached_by};
 ghost use Rattle.subgoal.specs.Help.{help_by_form, help_by_truth, literal_help, valued_form};
-ghost use Rattle.subgoal.specs.Leaves.{comparison_leaf, literal_leaf, reached_at};
+ghost use Rattle.subgoal.specs.Leaves.{comparison_leaf, gain_at, literal_leaf, reached_at};
 ghost use Rattle.subgoal.specs.Network.{IsAtom};
-ghost use Rattle.subgoal.specs.Unmet.{help_of, value_seen, IsRight};
+ghost use Rattle.subgoal.specs.Unmet.{help_by_value, help_of, value_seen, IsRight};
 
 use crate::leaves::Leaf;
 use crate::network::Atom;
-use crate::unmet::Unmet;
-use ground_task::{GCond, GExpr, Ground, State, Task, Truth};
+use crate::unmet::{Unmet, help_by_gain};
+use ground_task::{GCond, GExpr, Ground, Rel, State, Task, Truth};
+use num_ends::Dec;
 use simple_atoms::{FAR, Linear, value_in};
+
+/// A comparison's form, and its value in a state.
+#[derive(Clone, Copy)]
+struct Valued<'a> {
+    form: &'a Linear,
+    value: Dec,
+}
 
 /// A task, a state of it, and a value for each action.
 #[derive(Clone, Copy)]
@@ -37,31 +44,82 @@ fn reached_by(help: Option<u32>, value: u32) -> u32
     }
 }
 
-/// What the action of this number reaches; `FAR` where there is none.
-#[tactic(auto, using(crate::proofs::Helpers::reached_known, crate::proofs::Helpers::reached_unknown, crate::proofs::Helpers::reached_far))]
-fn reached_at(unmet: &Unmet, actions: &[Ground], values: &[u32], action: u32) -> u32
-    requires { length values.now ≡ length actions.now }
-    ensures { result ≡ reached_at (help_of unmet.now) actions.now values.now action }
+/// A value lowered to what the action of this number reaches; an action whose own value isn't below it reaches nothing
+/// less.
+#[tactic(auto, using(crate::proofs::Helpers::lowered_known, crate::proofs::Helpers::lowered_unknown, crate::proofs::Helpers::lowered_passed))]
+fn lowered(unmet: &Unmet, actions: &[Ground], values: &[u32], action: u32, least: u32) -> u32
+    requires as_many { length values.now ≡ length actions.now }
+    requires near { least ≤ FAR }
+    ensures value { result ≡ min least (reached_at (help_of unmet.now) actions.now values.now action) }
+    ensures near { result ≤ FAR }
 {
     let i = action as usize;
     if i >= actions.len() {
-        return FAR;
+        return least;
     }
-    if values[i] >= FAR {
-        return FAR;
+    if values[i] >= least {
+        return least;
     }
-    reached_by(unmet.help(&actions[i]), values[i])
+    least.min(reached_by(unmet.help(&actions[i]), values[i]))
 }
 
 /// The least value over the actions of these numbers.
-#[tactic(auto, using(crate::proofs::Steps::any_first, crate::proofs::Steps::any_next, crate::proofs::Steps::any_end))]
+#[tactic(auto, using(crate::proofs::Steps::any_first, crate::proofs::Steps::any_lowered, crate::proofs::Steps::any_end))]
 fn least_over(unmet: &Unmet, actions: &[Ground], values: &[u32], helpers: &[u32]) -> u32
     requires { length values.now ≡ length actions.now }
     ensures { result ≡ least_of (map (reached_at (help_of unmet.now) actions.now values.now) helpers.now) }
 {
     let mut least = FAR;
     'each: for helper in helpers {
-        least = least.min(reached_at(unmet, actions, values, *helper));
+        least = lowered(unmet, actions, values, *helper, least);
+    }
+    least
+}
+
+/// The same for a comparison whose form has this value, by the action's gain.
+#[tactic(auto, using(crate::proofs::Helpers::lowered_by_gain, crate::proofs::Helpers::lowered_unknown, crate::proofs::Helpers::lowered_passed))]
+fn lowered_by(
+    valued: &Valued,
+    gain: Option<Dec>,
+    actions: &[Ground],
+    values: &[u32],
+    action: u32,
+    least: u32,
+) -> u32
+    requires as_many { length values.now ≡ length actions.now }
+    requires gain { gain ≡ gain_at actions.now valued.now.form.now action }
+    requires near { least ≤ FAR }
+    ensures value { result ≡ min least (reached_at (help_by_value valued.now.form.now valued.now.value) actions.now values.now action) }
+    ensures near { result ≤ FAR }
+{
+    let i = action as usize;
+    if i >= actions.len() {
+        return least;
+    }
+    if values[i] >= least {
+        return least;
+    }
+    let help = help_by_gain(valued.form, valued.value, gain, &actions[i]);
+    least.min(reached_by(help, values[i]))
+}
+
+/// The least value over the actions of these numbers, which have these gains.
+#[tactic(auto, using(crate::proofs::Steps::any_first, crate::proofs::Steps::any_lowered, crate::proofs::Steps::any_end))]
+fn least_by_gains(
+    valued: &Valued,
+    actions: &[Ground],
+    values: &[u32],
+    helpers: &[u32],
+    gains: &[Option<Dec>],
+) -> u32
+    requires as_many { length values.now ≡ length actions.now }
+    requires long { length gains.now ≡ length helpers.now }
+    requires gains { gains.now ≡ map (gain_at actions.now valued.now.form.now) helpers.now }
+    ensures { result ≡ least_of (map (reached_at (help_by_value valued.now.form.now valued.now.value) actions.now values.now) helpers.now) }
+{
+    let mut least = FAR;
+    'each: for (k, helper) in helpers.iter().enumerate() {
+        least = lowered_by(valued, gains[k], actions, values, *helper, least);
     }
     least
 }
@@ -104,36 +162,44 @@ fn literal(view: &View, leaf: &Leaf, unmet: &Unmet, fact: u32, truth: bool) -> u
     unmet_value(view, unmet, leaf.helpers.as_slice())
 }
 
-/// What is known of a comparison that isn't true and isn't over.
-fn untrue<'a>(view: &View, form: &'a Option<Linear>, left: &'a GExpr, right: &'a GExpr) -> Unmet<'a>
-    requires { IsRight view.now }
-    ensures { (r : Rel) → form.now ≡ linear_form r left.now right.now → help_of result ≡ help_by_form left.now right.now (valued_form view.now.task.now.places view.now.state.now r left.now right.now) }
+/// The value of a comparison that isn't true and isn't over.
+#[tactic(auto, using(crate::proofs::Helpers::valued_least, crate::proofs::Helpers::unvalued_least, crate::proofs::Helpers::formless_least, crate::proofs::Helpers::gains_known, crate::proofs::Helpers::gains_long))]
+fn untrue(view: &View, leaf: &Leaf, rel: Rel, left: &GExpr, right: &GExpr) -> u32
+    requires right { IsRight view.now }
+    requires leaf { leaf.now ≡ comparison_leaf view.now.task.now.raw.actions rel left.now right.now }
+    ensures { result ≡ least_reached (help_by_form left.now right.now (valued_form view.now.task.now.places view.now.state.now rel left.now right.now)) view.now.task.now.raw.actions view.now.values.now }
 {
-    let Some(form) = form else {
-        return Unmet::Reads(left, right);
+    let Some(form) = &leaf.form else {
+        return unmet_value(view, &Unmet::Reads(left, right), leaf.helpers.as_slice());
     };
-    match value_in(view.task, form, view.state) {
-        Some(value) => Unmet::Form(form, value),
-        None => Unmet::Reads(left, right),
-    }
+    let Some(value) = value_in(view.task, form, view.state) else {
+        return unmet_value(view, &Unmet::Reads(left, right), leaf.helpers.as_slice());
+    };
+    let valued = Valued { form, value };
+    let actions = view.task.raw().actions.as_slice();
+    least_by_gains(
+        &valued,
+        actions,
+        view.values,
+        leaf.helpers.as_slice(),
+        leaf.gains.as_slice(),
+    )
 }
 
-fn comparison(view: &View, leaf: &Leaf, truth: Truth, left: &GExpr, right: &GExpr) -> u32
-    requires { IsRight view.now }
-    ensures { (r : Rel) → leaf.now ≡ comparison_leaf view.now.task.now.raw.actions r left.now right.now → result ≡ atom_value view.now.task.now.raw.actions view.now.values.now (help_by_truth view.now.task.now view.now.state.now r left.now right.now truth) }
+fn comparison(view: &View, leaf: &Leaf, truth: Truth, rel: Rel, left: &GExpr, right: &GExpr) -> u32
+    requires right { IsRight view.now }
+    requires leaf { leaf.now ≡ comparison_leaf view.now.task.now.raw.actions rel left.now right.now }
+    ensures { result ≡ atom_value view.now.task.now.raw.actions view.now.values.now (help_by_truth view.now.task.now view.now.state.now rel left.now right.now truth) }
 {
     match truth {
         Truth::Yes => 0,
-        Truth::No => {
-            let unmet = untrue(view, &leaf.form, left, right);
-            unmet_value(view, &unmet, leaf.helpers.as_slice())
-        }
+        Truth::No => untrue(view, leaf, rel, left, right),
         Truth::Over => unmet_value(view, &Unmet::Reads(left, right), leaf.helpers.as_slice()),
     }
 }
 
 /// The value of an atom.
-#[tactic(auto, using(crate::proofs::Seen::known_fact))]
+#[tactic(auto, using(crate::proofs::Seen::known_fact, crate::proofs::Seen::comparison_known))]
 fn weight(view: &View, atom: &Atom) -> u32
     requires right { IsRight view.now }
     requires atom { IsAtom view.now.task.now atom.now }
@@ -144,9 +210,9 @@ fn weight(view: &View, atom: &Atom) -> u32
             let unmet = Unmet::Literal(*fact, *truth);
             literal(view, &atom.leaf, &unmet, *fact, *truth)
         }
-        GCond::Cmp(_, left, right) => {
+        GCond::Cmp(rel, left, right) => {
             let truth = view.task.truth(atom.cond, view.state);
-            comparison(view, &atom.leaf, truth, left, right)
+            comparison(view, &atom.leaf, truth, *rel, left, right)
         }
         GCond::True | GCond::False | GCond::And(_) | GCond::Or(_) => 0,
     }

@@ -1,13 +1,13 @@
 //! What is known of an atom in every state.
 
-ghost use Rattle.std.specs.Prelude.{◌≡◌, ◌≤◌, IfOk, length};
+ghost use Rattle.std.specs.Prelude.{◌≡◌, ◌≤◌, IfOk, length, map};
 ghost use Rattle.subgoal.specs.Help.{makes};
-ghost use Rattle.subgoal.specs.Leaves.{changes_form, comparison_leaf, literal_leaf, may_help, numbers_of};
+ghost use Rattle.subgoal.specs.Leaves.{changes_form, comparison_leaf, gain_at, gains_by, literal_leaf, may_help, numbers_of};
 
 use crate::unmet::{changes_read, changes_term, makes};
 use ground_task::{GExpr, Ground, Rel};
-use num_ends::{List, NoMemory};
-use simple_atoms::{Linear, linear_form};
+use num_ends::{Dec, List, NoMemory};
+use simple_atoms::{Linear, gain_of, linear_form};
 use std::alloc::Global;
 
 /// What is known of an atom: its form where it is a comparison that has one, and the actions that may help it.
@@ -15,6 +15,8 @@ use std::alloc::Global;
 pub(crate) struct Leaf {
     pub form: Option<Linear>,
     pub helpers: List<u32>,
+    /// Where there is a form, by how much each of them lets it grow.
+    pub gains: List<Option<Dec>>,
 }
 
 #[tactic(auto, using(crate::proofs::LeafLists::numbers_passed, crate::proofs::LeafLists::numbers_failed, crate::proofs::LeafLists::numbers_end))]
@@ -72,6 +74,47 @@ fn comparison_helpers(
     Ok(numbers)
 }
 
+/// The gain of a form by the action of this number.
+fn gain_at(actions: &[Ground], form: &Linear, helper: u32) -> Option<Dec>
+    ensures { result ≡ gain_at actions.now form.now helper }
+{
+    let i = helper as usize;
+    if i >= actions.len() {
+        return None;
+    }
+    gain_of(form, &actions[i])
+}
+
+#[tactic(auto, using(crate::proofs::LeafLists::mapped_next, crate::proofs::LeafLists::mapped_end))]
+fn gains_of_form(
+    alloc: Global,
+    actions: &[Ground],
+    form: &Linear,
+    helpers: &[u32],
+) -> Result<List<Option<Dec>>, NoMemory>
+    ensures { IfOk result (λ gains. gains ≡ map (gain_at actions.now form.now) helpers.now) }
+{
+    let mut gains = List::new(alloc);
+    'each: for helper in helpers {
+        gains.push(gain_at(actions, form, *helper))?;
+    }
+    Ok(gains)
+}
+
+fn gains_by(
+    alloc: Global,
+    actions: &[Ground],
+    form: &Option<Linear>,
+    helpers: &[u32],
+) -> Result<List<Option<Dec>>, NoMemory>
+    ensures { IfOk result (λ gains. gains ≡ gains_by actions.now form.now helpers.now) }
+{
+    match form {
+        Some(form) => gains_of_form(alloc, actions, form, helpers),
+        None => Ok(List::new(alloc)),
+    }
+}
+
 pub(crate) fn literal_leaf(
     alloc: Global,
     actions: &[Ground],
@@ -85,6 +128,7 @@ pub(crate) fn literal_leaf(
     Ok(Leaf {
         form: None,
         helpers,
+        gains: List::new(alloc),
     })
 }
 
@@ -100,5 +144,10 @@ pub(crate) fn comparison_leaf(
 {
     let form = linear_form(alloc, rel, left, right)?;
     let helpers = comparison_helpers(alloc, actions, left, right, &form)?;
-    Ok(Leaf { form, helpers })
+    let gains = gains_by(alloc, actions, &form, helpers.as_slice())?;
+    Ok(Leaf {
+        form,
+        helpers,
+        gains,
+    })
 }

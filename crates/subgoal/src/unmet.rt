@@ -3,13 +3,12 @@
 ghost use Rattle.std.specs.Prelude.{◌≡◌, List, ℕ};
 ghost use Rattle.std.specs.List.{list_any};
 ghost use Rattle.ground_task.specs.Tasks.{is_listed};
-ghost use Rattle.simple_atoms.specs.Values.{gain_of};
 ghost use Rattle.subgoal.specs.Help.{changes, help_by_gain, makes, once_where, reads_of};
 ghost use Rattle.subgoal.specs.Unmet.{help_of};
 
 use ground_task::{GExpr, Ground};
 use num_ends::Dec;
-use simple_atoms::{Linear, gain_of, repetitions};
+use simple_atoms::{Linear, repetitions};
 
 /// An atom that isn't true in a state.
 #[derive(Clone, Copy)]
@@ -18,8 +17,6 @@ pub(crate) enum Unmet<'a> {
     Literal(u32, bool),
     /// A comparison of these two, which has no form or whose form has no value.
     Reads(&'a GExpr, &'a GExpr),
-    /// A comparison's form, and its value in the state.
-    Form(&'a Linear, Dec),
 }
 
 fn is_listed(facts: &[u32], fact: u32) -> bool
@@ -80,10 +77,16 @@ fn once_where(helps: bool) -> Option<u32>
     if helps { Some(1) } else { None }
 }
 
-fn help_by_gain(form: &Linear, value: Dec, action: &Ground) -> Option<u32>
-    ensures { result ≡ help_by_gain form.now value action.now (gain_of form.now action.now) }
+/// How often an action of this gain is applied to make a comparison true whose form has this value, where it helps.
+pub(crate) fn help_by_gain(
+    form: &Linear,
+    value: Dec,
+    gain: Option<Dec>,
+    action: &Ground,
+) -> Option<u32>
+    ensures { result ≡ help_by_gain form.now value action.now gain }
 {
-    match gain_of(form, action) {
+    match gain {
         Some(gain) => repetitions(form, value, gain),
         None => once_where(changes_term(action, form.terms.as_slice())),
     }
@@ -100,7 +103,6 @@ impl<'a> Unmet<'a> {
                 let helps = changes_read(action, left) || changes_read(action, right);
                 once_where(helps)
             }
-            Unmet::Form(form, value) => help_by_gain(form, *value, action),
         }
     }
 }

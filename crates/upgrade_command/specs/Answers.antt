@@ -1,6 +1,7 @@
 -- What `upgrade` may answer to the texts of a domain, a problem and a certificate.
 use Rattle.std.specs.Prelude.{ℕ, ◌≡◌, List, [], ◌∷◌}
 use Rattle.answer_text.specs.Texts.{certificate_text}
+use Rattle.cert_reader.specs.Certificates.{ReadsAs}
 use Rattle.cert_text.specs.declared.cert.Cert.{Cert}
 use Rattle.ground_task.specs.Tasks.{TaskValue}
 use Rattle.pair_certificate.specs.Readings.{IsReading, IsRefusal}
@@ -13,12 +14,14 @@ use Rattle.run_answers.specs.declared.answers.Answer.{Answer}
 abbrev pub upgraded : TaskValue → Cert → Answer
 upgraded t cert = record { status = 0; text = certificate_text t cert }
 
--- the answer is the certificate that the third text reads as for the ground task of the first two, in version 2
+-- The answer is the certificate that the third text reads as for the ground task of the first two, in version 2. What is written
+-- reads as the same boxes and the same states for the same task, so it is good exactly where what was read is.
 pub record IsUpgraded (domain problem certificate : List ℕ) (answer : Answer) : Type 0 where
   pub task : TaskValue
   pub cert : Cert
   pub reading : IsReading domain problem certificate task cert
   pub is : answer ≡ upgraded task cert
+  pub reads_as_before : ReadsAs task answer.text cert.boxes cert.states
 
 -- the certificate in version 2, or a refusal
 pub data IsAnswer (domain problem certificate : List ℕ) : Answer → Type 0 where

@@ -1,4 +1,4 @@
-use Rattle.enhsp_run.proofs.Endings.{found_end, small_written, written_end}
+use Rattle.enhsp_run.proofs.Endings.{found_end, small_written, upgraded_end, written_end}
 use Rattle.enhsp_run.proofs.sending.send.Goals as goal
 
 pub send_written-requires : goal.send_written-requires
@@ -11,3 +11,7 @@ returns-in-Written-clause-end g c =
 pub returns-in-Found-clause-end : goal.returns-in-Found-clause-end
 returns-in-Found-clause-end g c =
     found_end c.args.outcome _ _ _ _ c.send_found.result c.in-Found.form c.in-Found.found c.in-Found.is c.send_found.ensures
+
+pub returns-in-Upgraded-clause-end : goal.returns-in-Upgraded-clause-end
+returns-in-Upgraded-clause-end g c =
+    upgraded_end c.args.outcome _ _ _ _ c.send_upgraded.result c.in-Upgraded.read c.in-Upgraded.is c.send_upgraded.ensures

@@ -3,21 +3,12 @@ use Rattle.ground_task.specs.declared.answers.Truth.{Truth}
 use Rattle.subgoal.specs.Equations.{atom_value, least_of}
 use Rattle.subgoal.specs.Help.{help_by_truth, help_by_reads}
 use Rattle.subgoal.specs.Leaves.{reached_at}
-use Rattle.subgoal.specs.Unmet.{help_of}
-use Rattle.subgoal.proofs.Helpers.{form_least, reads_least}
+use Rattle.subgoal.proofs.Helpers.{reads_least}
 use Rattle.subgoal.proofs.atoms.comparison.Goals as goal
 
-pub returns-in-No : goal.returns-in-No
-returns-in-No c = λ r is.
-    let view = c.args.view.now in
-    form_least view.task.now.raw.actions view.values.now c.requires.as_many c.args.leaf.now view.task.now.places view.state.now r c.args.left.now c.args.right.now (help_of c.untrue-unmet.result) c.unmet_value.result is
-    (c.untrue-unmet.ensures r (ap (λ l. l.form) is))
-    (c.unmet_value.ensures ∙ ap (λ (hs : List ℕ). least_of (map (reached_at (help_of c.untrue-unmet.result) view.task.now.raw.actions view.values.now) hs)) c.as_slice.ensures)
-    ∙ ap (λ (truth : Truth). atom_value view.task.now.raw.actions view.values.now (help_by_truth view.task.now view.state.now r c.args.left.now c.args.right.now truth)) (sym c.in-No.is)
-
 pub returns-in-Over : goal.returns-in-Over
-returns-in-Over c = λ r is.
+returns-in-Over c =
     let view = c.args.view.now in
-    reads_least view.task.now.raw.actions view.values.now c.requires.as_many c.args.leaf.now r c.args.left.now c.args.right.now c.unmet_value-in-Over.result is
-    (c.unmet_value-in-Over.ensures ∙ ap (λ (hs : List ℕ). least_of (map (reached_at (help_by_reads c.args.left.now c.args.right.now) view.task.now.raw.actions view.values.now) hs)) c.as_slice-in-Over.ensures)
-    ∙ ap (λ (truth : Truth). atom_value view.task.now.raw.actions view.values.now (help_by_truth view.task.now view.state.now r c.args.left.now c.args.right.now truth)) (sym c.in-Over.is)
+    reads_least view.task.now.raw.actions view.values.now c.requires.right.as_many c.args.leaf.now c.args.rel c.args.left.now c.args.right.now c.unmet_value.result c.requires.leaf
+    (c.unmet_value.ensures ∙ ap (λ (hs : List ℕ). least_of (map (reached_at (help_by_reads c.args.left.now c.args.right.now) view.task.now.raw.actions view.values.now) hs)) c.as_slice.ensures)
+    ∙ ap (λ (truth : Truth). atom_value view.task.now.raw.actions view.values.now (help_by_truth view.task.now view.state.now c.args.rel c.args.left.now c.args.right.now truth)) (sym c.in-Over.is)

@@ -4,7 +4,7 @@ use Rattle.ground_task.specs.Ranged.{ranged_truth}
 use Rattle.subgoal.specs.Equations.{atom_value}
 use Rattle.subgoal.specs.Help.{help_by_truth}
 use Rattle.subgoal.specs.Unmet.{value_seen}
-use Rattle.subgoal.proofs.Seen.{comparison_known, literal_known, seen_Cmp, seen_Fact}
+use Rattle.subgoal.proofs.Seen.{literal_known, seen_Cmp, seen_Fact}
 use Rattle.subgoal.proofs.atoms.weight.Goals as goal
 
 pub returns-in-Fact : goal.returns-in-Fact
@@ -17,11 +17,10 @@ returns-in-Fact c =
 pub returns-in-Cmp : goal.returns-in-Cmp
 returns-in-Cmp c =
     let view = c.args.view.now in
-    let atom = c.args.atom.now in
-    let r = c.in-Cmp.field-0 in
+    let r = c.in-Cmp.rel in
     let left = c.in-Cmp.left in
     let right = c.in-Cmp.right in
-    c.comparison.ensures r (comparison_known view.task.now.raw.actions atom.cond.now atom.leaf r left right c.requires.atom.known c.in-Cmp.is)
+    c.comparison.ensures
     ∙ ap (λ (t : Truth). atom_value view.task.now.raw.actions view.values.now (help_by_truth view.task.now view.state.now r left right t))
     (c.truth-truth.ensures ∙ ap (ranged_truth view.task.now view.state.now) c.in-Cmp.is)
     ∙ sym (ap (value_seen view) c.in-Cmp.is ∙ seen_Cmp view r left right)
